@@ -1,0 +1,70 @@
+-- Laws of the image: runs of words put and read.
+use Prim.Native.Nat.{ℕ, zero, suc, _+_, _*_, _≤_, _<_}
+use native.Mathlib.Omega.{arith}
+use mathlib.Core.Path.{_≡_, refl, ap, ap₂, sym, _∙_, subst}
+use mathlib.Core.Bool.{Bool, true, false, _&&_}
+use mathlib.Core.Logic.{_⊎_, inl, inr, _≢_}
+use mathlib.Core.List.{List, [], _∷_, _++_}
+use native.Mathlib.Decide.{ℕ-discrete}
+use lib.Dec.{T, eqb}
+use borrow.Author.Tests.{eqb-true, eqb-false, eq-eqb}
+use lib.ListN.{length, getD, set, length-set}
+use lib.Seq.{sets, length-sets, getD-set-same, getD-set-other}
+use Rattle.rules.specs.Form.{read, equal}
+use Rattle.rules.proofs.Bools.{and-left, and-right}
+
+pub sets-below : (l : List ℕ) (i : ℕ) (vs : List ℕ) (k : ℕ) → k < i → getD (sets l i vs) k 0 ≡ getD l k 0
+sets-below l i [] k h = refl
+sets-below l i (v ∷ vs) k h = sets-below (set l i v) (suc i) vs k (omega arith) ∙ getD-set-other l i k v 0 (omega arith)
+
+pub sets-above : (l : List ℕ) (i : ℕ) (vs : List ℕ) (k : ℕ) → i + length vs ≤ k → getD (sets l i vs) k 0 ≡ getD l k 0
+sets-above l i [] k h = refl
+sets-above l i (v ∷ vs) k h = sets-above (set l i v) (suc i) vs k (omega arith) ∙ getD-set-other l i k v 0 (omega arith)
+
+pub sets-read : (im f : List ℕ) (i n k : ℕ) → i + n ≤ length f → i ≤ k → k < i + n
+    → getD (sets f i (read im i n)) k 0 ≡ getD im k 0
+sets-read im f i zero k hf h₁ h₂ = absurd (omega arith)
+sets-read im f i (suc n) k hf h₁ h₂ =
+    elim (ℕ-discrete k i) [
+      | yes e ↦ sets-below (set f i (getD im i 0)) (suc i) (read im (suc i) n) k (omega arith)
+          ∙ ap (λ (j : ℕ). getD (set f i (getD im i 0)) j 0) e ∙ getD-set-same f i (getD im i 0) 0 (omega arith) ∙ ap (λ (j : ℕ). getD im j 0) (sym e)
+      | no d ↦ sets-read im (set f i (getD im i 0)) (suc i) n k (omega (arith, length-set f i (getD im i 0))) (omega arith) (omega arith)
+    ]
+
+pub read-cong : (a b : List ℕ) (i n : ℕ) → ((k : ℕ) → i ≤ k → k < i + n → getD a k 0 ≡ getD b k 0) → read a i n ≡ read b i n
+read-cong a b i zero h = refl
+read-cong a b i (suc n) h =
+    ap₂ {C = List ℕ} (λ x xs. x ∷ xs) (h i (omega arith) (omega arith))
+    (read-cong a b (suc i) n (λ k p q. h k (omega arith) (omega arith)))
+
+pub read-at : (a b : List ℕ) (i n : ℕ) → read a i n ≡ read b i n → (k : ℕ) → i ≤ k → k < i + n → getD a k 0 ≡ getD b k 0
+read-at a b i zero e k p q = absurd (omega arith)
+read-at a b i (suc n) e k p q =
+    let hd : getD a i 0 ≡ getD b i 0 = cc in
+    let tl : read a (suc i) n ≡ read b (suc i) n = cc in
+    elim (ℕ-discrete k i) [
+      | yes x ↦ ap (λ (j : ℕ). getD a j 0) x ∙ hd ∙ ap (λ (j : ℕ). getD b j 0) (sym x)
+      | no d ↦ read-at a b (suc i) n tl k (omega arith) (omega arith)
+    ]
+
+pub read-sets : (l : List ℕ) (i : ℕ) (vs : List ℕ) → i + length vs ≤ length l → read (sets l i vs) i (length vs) ≡ vs
+read-sets l i [] h = refl
+read-sets l i (v ∷ vs) h =
+    ap₂ {C = List ℕ} (λ x xs. x ∷ xs)
+    (sets-below (set l i v) (suc i) vs i (omega arith) ∙ getD-set-same l i v 0 (omega arith))
+    (read-sets (set l i v) (suc i) vs (omega (arith, length-set l i v)))
+
+pub length-read : (a : List ℕ) (i n : ℕ) → length (read a i n) ≡ n
+length-read a i zero = refl
+length-read a i (suc n) = ap suc (length-read a (suc i) n)
+
+pub equal-true : (a b : List ℕ) → equal a b ≡ true → a ≡ b
+equal-true [] [] e = refl
+equal-true [] (y ∷ ys) e = cc
+equal-true (x ∷ xs) [] e = cc
+equal-true (x ∷ xs) (y ∷ ys) e =
+    ap₂ {C = List ℕ} (λ z zs. z ∷ zs) (eqb-true x y (and-left (eqb x y) (equal xs ys) e)) (equal-true xs ys (and-right (eqb x y) (equal xs ys) e))
+
+pub equal-refl : (a : List ℕ) → equal a a ≡ true
+equal-refl [] = refl
+equal-refl (x ∷ xs) = ap₂ _&&_ (eq-eqb x x refl) (equal-refl xs)

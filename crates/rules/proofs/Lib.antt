@@ -1,0 +1,12 @@
+pub mod Bools
+pub mod Image
+pub mod Rows
+pub mod Valid
+pub mod Parse
+pub mod Differing
+pub mod Form
+pub mod Verdict
+pub mod Records
+pub mod Outcomes
+pub mod Demands
+pub mod Cases

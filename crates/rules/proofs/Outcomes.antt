@@ -1,0 +1,178 @@
+-- The demands' proofs: the laws of the form, carried to what the reader and the normaliser return and write.
+use Prim.Native.Nat.{ℕ, suc, _+_, _*_, _≤_, _<_}
+use native.Mathlib.Omega.{arith}
+use mathlib.Core.Path.{_≡_, refl, ap, ap₂, sym, _∙_, subst}
+use mathlib.Core.Bool.{Bool, true, false}
+use mathlib.Core.Logic.{_⊎_, inl, inr, _↔_}
+use mathlib.Core.List.{List, [], _∷_, _++_}
+use lib.Dec.{ltb}
+use lib.ListN.{length, getD, drop}
+use lib.Seq.{getD-set-other}
+use Rattle.rules.specs.Table.{Kind, setting, plain, keeps, begins}
+use Rattle.rules.specs.Command.{Command, wordsAll}
+use Rattle.rules.specs.Values.{refusal}
+use Rattle.rules.specs.Walk.{Parsed, refused, accepted, parse}
+use Rattle.rules.specs.Image.{leave, apply, final, UnsetBy, Unset}
+use Rattle.rules.specs.Records.{records, recordWords, withoutPositions}
+use Rattle.rules.specs.Effect.{Effect, effect, works}
+use Rattle.rules.specs.Form.{form}
+use Rattle.rules.specs.Answer.{Outcome, refuse, accept, fitting, room, readParsed, normaliseParsed, reading, normalising, commandsOf, does, normalForm, written}
+use Rattle.rules.proofs.Valid.{AllValid}
+use Rattle.rules.proofs.Parse.{parse-accepted}
+use Rattle.rules.proofs.Differing.{sets-outside}
+use Rattle.rules.proofs.Form.{form-accepted, form-fits, form-same, same-form, same-effect, normal-again}
+use Rattle.rules.proofs.Records.{records-count, records-same}
+use Rattle.rules.proofs.Verdict.{written-accept, Reads, reads, reading-zero, Normalises, normalises, normalising-zero}
+
+-- ---- a refusal
+
+fitting-refuses : (small : Bool) (ws image buffer : List ℕ) (o : Outcome) → o .answer .verdict ≡ 0
+    → (fitting small ws image buffer o .answer .verdict ≡ 0 → ⊥)
+    → fitting small ws image buffer o
+    ≡ refuse (refusal (fitting small ws image buffer o .answer .verdict) (fitting small ws image buffer o .answer .position)) image buffer
+fitting-refuses true ws image buffer o z n = refl
+fitting-refuses false ws image buffer o z n = absurd (n z)
+
+read-refuses : (ws image buffer : List ℕ) (x : Parsed) → (readParsed ws image buffer x .answer .verdict ≡ 0 → ⊥)
+    → readParsed ws image buffer x ≡ refuse (refusal (readParsed ws image buffer x .answer .verdict) (readParsed ws image buffer x .answer .position)) image buffer
+read-refuses ws image buffer (refused f) n = refl
+read-refuses ws image buffer (accepted cs) n =
+    fitting-refuses (ltb (room buffer) (length (records 0 cs))) ws image buffer (accept ws cs (recordWords (records 0 cs)) (final image cs) buffer) refl n
+
+normalise-refuses : (ws image buffer : List ℕ) (x : Parsed) → (normaliseParsed ws image buffer x .answer .verdict ≡ 0 → ⊥)
+    → normaliseParsed ws image buffer x
+    ≡ refuse (refusal (normaliseParsed ws image buffer x .answer .verdict) (normaliseParsed ws image buffer x .answer .position)) image buffer
+normalise-refuses ws image buffer (refused f) n = refl
+normalise-refuses ws image buffer (accepted cs) n =
+    fitting-refuses (ltb (length buffer) (length (wordsAll (form image cs)))) ws image buffer (accept ws cs (wordsAll (form image cs)) image buffer) refl n
+
+pub reading-refuses : (ws image buffer : List ℕ) → (reading ws image buffer .answer .verdict ≡ 0 → ⊥)
+    → reading ws image buffer ≡ refuse (refusal (reading ws image buffer .answer .verdict) (reading ws image buffer .answer .position)) image buffer
+unfolding reading
+reading-refuses ws image buffer n = read-refuses ws image buffer (parse image ws) n
+
+pub normalising-refuses : (ws image buffer : List ℕ) → (normalising ws image buffer .answer .verdict ≡ 0 → ⊥)
+    → normalising ws image buffer
+    ≡ refuse (refusal (normalising ws image buffer .answer .verdict) (normalising ws image buffer .answer .position)) image buffer
+unfolding normalising
+normalising-refuses ws image buffer n = normalise-refuses ws image buffer (parse image ws) n
+
+-- ---- words that no command sets
+
+abbrev pub commands : List ℕ → List ℕ → List Command
+commands image ws = commandsOf (parse image ws)
+
+leave-unset : (t : Kind) (id h : ℕ) (rest image : List ℕ) (k : ℕ) → UnsetBy t id rest k → getD (leave t id h rest image) k 0 ≡ getD image k 0
+leave-unset setting id h rest image k u = sets-outside image id (h ∷ rest) k u
+leave-unset plain id h rest image k u = refl
+leave-unset keeps id h rest image k u = getD-set-other image id k h 0 u
+leave-unset begins id h rest image k u = getD-set-other image 0x08 k h 0 u
+
+final-unset : (image : List ℕ) (cs : List Command) (k : ℕ) → Unset cs k → getD (final image cs) k 0 ≡ getD image k 0
+final-unset image [] k u = refl
+final-unset image (c ∷ cs) k u =
+    final-unset (apply c image) cs k (u .1) ∙ leave-unset (c .row .kind) (c .row .id) (c .header) (c .rest) image k (u .0)
+
+pub untouched : (ws image buffer : List ℕ) → reading ws image buffer .answer .verdict ≡ 0
+    → (k : ℕ) → Unset (commands image ws) k → getD (reading ws image buffer .image) k 0 ≡ getD image k 0
+untouched ws image buffer z k u =
+    ap (λ (o : Outcome). getD (o .image) k 0) (reading-zero image ws buffer z .is) ∙ final-unset image (commands image ws) k u
+
+-- ---- the form, as the normaliser writes it
+
+-- its commands, and its words
+abbrev pub formCommands : List ℕ → List ℕ → List Command
+formCommands image ws = form image (commands image ws)
+
+abbrev pub formWords : List ℕ → List ℕ → List ℕ → List ℕ
+formWords image ws out = written (normalising ws image out)
+
+module _ (image ws out : List ℕ) (z : normalising ws image out .answer .verdict ≡ 0) where
+  n : Normalises image ws out (commands image ws)
+  n = normalising-zero image ws out z
+
+  pub form-written : formWords image ws out ≡ normalForm image ws
+  form-written = ap written (n .is) ∙ written-accept ws (commands image ws) (normalForm image ws) image out
+
+  pub writes-form : (formWords image ws out ≡ normalForm image ws) × (normalising ws image out .answer .words ≡ length (normalForm image ws))
+  writes-form = (form-written, ap (λ (o : Outcome). o .answer .words) (n .is))
+
+  -- the form is accepted, with the form's commands
+  pub form-parsed : parse image (formWords image ws out) ≡ accepted (formCommands image ws)
+  form-parsed = ap (parse image) form-written ∙ form-accepted image ws (commands image ws) (n .parsed)
+
+  pub form-does : does image (formWords image ws out) ≡ does image ws
+  form-does = ap (λ (x : Parsed). effect image (commandsOf x)) form-parsed ∙ form-same image ws (commands image ws) (n .parsed)
+
+  pub form-short : length (formWords image ws out) ≤ length ws
+  form-short = omega (arith, ap length form-written, form-fits image ws (commands image ws) (n .parsed))
+
+  module _ (out′ : List ℕ) (long : normalising ws image out .answer .words ≤ length out′) where
+    back : Normalises image (formWords image ws out) out′ (formCommands image ws)
+    back = normalises image (formWords image ws out) out′ (formCommands image ws) form-parsed
+        (omega (arith, writes-form .1, ap length (normal-again image ws (commands image ws) (n .parsed) .2)))
+
+    pub write-back : normalising (formWords image ws out) image out′
+        ≡ accept (formWords image ws out) (formCommands image ws) (wordsAll (form image (formCommands image ws))) image out′
+    write-back = back .is
+
+    pub back-again : written (normalising (formWords image ws out) image out′) ≡ formWords image ws out
+    back-again =
+        ap written (back .is) ∙ written-accept (formWords image ws out) (formCommands image ws) (wordsAll (form image (formCommands image ws))) image out′
+        ∙ normal-again image ws (commands image ws) (n .parsed) .2 ∙ sym form-written
+
+pub equal-exactly : (image ws us out out′ : List ℕ) → normalising ws image out .answer .verdict ≡ 0 → normalising us image out′ .answer .verdict ≡ 0
+    → (formWords image ws out ≡ written (normalising us image out′)) ↔ (does image ws ≡ does image us)
+equal-exactly image ws us out out′ z y =
+    let p = normalising-zero image ws out z .parsed in
+    let q = normalising-zero image us out′ y .parsed in
+    let f = form-written image ws out z in
+    let g = form-written image us out′ y in (
+      λ e. same-effect image ws us (commands image ws) (commands image us) p q (sym f ∙ e ∙ g),
+      λ e. f ∙ same-form image ws us (commands image ws) (commands image us) p q e ∙ sym g,
+    )
+
+-- ---- the form, read back
+
+module _ (image ws recs out recs′ : List ℕ) (y : reading ws image recs .answer .verdict ≡ 0) (z : normalising ws image out .answer .verdict ≡ 0)
+    (enough : reading ws image recs .answer .records ≤ room recs′) where
+  r : Reads image ws recs (commands image ws)
+  r = reading-zero image ws recs y
+
+  valid : AllValid (commands image ws)
+  valid = parse-accepted image ws (commands image ws) (r .parsed) .parses .valid
+
+  form-valid : AllValid (formCommands image ws)
+  form-valid = parse-accepted image _ (formCommands image ws) (form-parsed image ws out z) .parses .valid
+
+  same-effects : effect image (formCommands image ws) ≡ effect image (commands image ws)
+  same-effects = form-same image ws (commands image ws) (r .parsed)
+
+  same-works : works image (formCommands image ws) ≡ works image (commands image ws)
+  same-works = ap (λ (x : Effect). x .done) same-effects
+
+  count : length (records 0 (formCommands image ws)) ≡ length (records 0 (commands image ws))
+  count = records-count 0 0 image image (formCommands image ws) (commands image ws) form-valid valid same-works
+
+  back-reads : Reads image (formWords image ws out) recs′ (formCommands image ws)
+  back-reads =
+      let e : reading ws image recs .answer .records ≡ length (records 0 (commands image ws)) = ap (λ (o : Outcome). o .answer .records) (r .is) in
+      reads image (formWords image ws out) recs′ (formCommands image ws) (form-parsed image ws out z) (omega (arith, count, e))
+
+  pub read-back : reading (formWords image ws out) image recs′
+      ≡ accept (formWords image ws out) (formCommands image ws) (recordWords (records 0 (formCommands image ws)))
+      (final image (formCommands image ws)) recs′
+  read-back = back-reads .is
+
+  pub back-image : reading (formWords image ws out) image recs′ .image ≡ reading ws image recs .image
+  back-image =
+      ap (λ (o : Outcome). o .image) read-back ∙ ap (λ (x : Effect). x .left) same-effects ∙ sym (ap (λ (o : Outcome). o .image) (r .is))
+
+  pub back-records : (reading (formWords image ws out) image recs′ .answer .records ≡ reading ws image recs .answer .records)
+      × (withoutPositions (written (reading (formWords image ws out) image recs′)) ≡ withoutPositions (written (reading ws image recs)))
+  back-records = (
+    ap (λ (o : Outcome). o .answer .records) read-back ∙ count ∙ sym (ap (λ (o : Outcome). o .answer .records) (r .is)),
+    ap withoutPositions (ap written read-back ∙ written-accept (formWords image ws out) (formCommands image ws) (recordWords (records 0 (formCommands image ws))) (final image (formCommands image ws)) recs′)
+        ∙ records-same 0 0 image image (formCommands image ws) (commands image ws) form-valid valid same-works
+        ∙ sym (ap withoutPositions (ap written (r .is) ∙ written-accept ws (commands image ws) (recordWords (records 0 (commands image ws))) (final image (commands image ws)) recs)),
+  )

@@ -1,0 +1,85 @@
+-- The whole answers of the reader and the normaliser (document 01, "Verdicts and what stays").
+use Prim.Native.Nat.{ℕ, _/_}
+use mathlib.Core.Bool.{Bool, cond}
+use mathlib.Core.List.{List, [], _++_}
+use lib.Dec.{ltb}
+use lib.ListN.{length, take, drop}
+use Rattle.rules.specs.declared.Answer.{Answer}
+use Rattle.rules.specs.Command.{Command, wordsAll}
+use Rattle.rules.specs.Values.{Refusal, refusal}
+use Rattle.rules.specs.Walk.{Parsed, refused, accepted, parse}
+use Rattle.rules.specs.Image.{final}
+use Rattle.rules.specs.Records.{records, recordWords}
+use Rattle.rules.specs.Effect.{Effect, effect}
+use Rattle.rules.specs.Form.{form}
+
+-- what a call returns, and the image and the lent buffer after it
+pub record Outcome : Type 0 where
+  pub answer : Answer
+  pub image : List ℕ
+  pub buffer : List ℕ
+
+-- "On refusal the last three are 0, and image and buffers are as before."
+abbrev pub refuse : Refusal → List ℕ → List ℕ → Outcome
+refuse f image buffer =
+    record {
+      answer = record { verdict = f .number; position = f .word; commands = 0; records = 0; words = 0 };
+      image = image;
+      buffer = buffer;
+    }
+
+-- 0 at "the list's length", with the words written. "On acceptance the words after those written are as before."
+abbrev pub accept : List ℕ → List Command → List ℕ → List ℕ → List ℕ → Outcome
+accept ws cs written image buffer =
+    record {
+      answer =
+          record { verdict = 0; position = length ws; commands = length cs; records = length (records 0 cs); words = length written };
+      image = image;
+      buffer = written ++ drop (length written) buffer;
+    }
+
+-- 11 "record or output buffer too small", at "the list's length", "exactly when what is to be written doesn't fit"
+abbrev pub fitting : Bool → List ℕ → List ℕ → List ℕ → Outcome → Outcome
+fitting small ws image buffer done = cond small (refuse (refusal 11 (length ws)) image buffer) done
+
+-- "The room in a record buffer is its length divided by four, rounded down."
+abbrev pub room : List ℕ → ℕ
+room buffer = length buffer / 4
+
+abbrev pub readParsed : List ℕ → List ℕ → List ℕ → Parsed → Outcome
+readParsed ws image buffer (refused f) = refuse f image buffer
+readParsed ws image buffer (accepted cs) =
+    fitting (ltb (room buffer) (length (records 0 cs))) ws image buffer
+    (accept ws cs (recordWords (records 0 cs)) (final image cs) buffer)
+
+abbrev pub normaliseParsed : List ℕ → List ℕ → List ℕ → Parsed → Outcome
+normaliseParsed ws image buffer (refused f) = refuse f image buffer
+normaliseParsed ws image buffer (accepted cs) =
+    fitting (ltb (length buffer) (length (wordsAll (form image cs)))) ws image buffer
+    (accept ws cs (wordsAll (form image cs)) image buffer)
+
+-- "A reader: from a list, a register image and a record buffer to a verdict, the new image and the records of work."
+unfoldable pub reading : List ℕ → List ℕ → List ℕ → Outcome
+reading ws image buffer = readParsed ws image buffer (parse image ws)
+
+-- "A normaliser: from a list, a starting image and an output buffer to the normal form. It only reads the image. ..
+-- The normaliser's commands and records are those of the list it was given."
+unfoldable pub normalising : List ℕ → List ℕ → List ℕ → Outcome
+normalising ws image buffer = normaliseParsed ws image buffer (parse image ws)
+
+-- the commands of an accepted list
+abbrev pub commandsOf : Parsed → List Command
+commandsOf (refused f) = []
+commandsOf (accepted cs) = cs
+
+-- what an accepted list does from an image
+abbrev pub does : List ℕ → List ℕ → Effect
+does image ws = effect image (commandsOf (parse image ws))
+
+-- the words of an accepted list's normal form
+abbrev pub normalForm : List ℕ → List ℕ → List ℕ
+normalForm image ws = wordsAll (form image (commandsOf (parse image ws)))
+
+-- the words that a call has written, alone
+abbrev pub written : Outcome → List ℕ
+written o = take (o .answer .words) (o .buffer)

@@ -1,0 +1,41 @@
+-- One command by itself: refusals 3 to 9 (document 01, "Verdicts and what stays").
+use Prim.Native.Nat.{ℕ, _+_}
+use mathlib.Core.Bool.{cond, _||_}
+use mathlib.Core.List.{List, [], _∷_}
+use mathlib.Core.Option.{Option, none, some}
+use lib.Dec.{eqb, ltb}
+use lib.ListN.{length, take}
+use Rattle.rules.specs.Word.{idOf, headerOf}
+use Rattle.rules.specs.Table.{Row, rowOf}
+use Rattle.rules.specs.Command.{Command, moreMasks, payload}
+use Rattle.rules.specs.Values.{Refusal, refusal, Fault, faults}
+
+-- a command, or a refusal whose word is counted from the command's first
+pub data Decoded : Type 0 where
+  bad : Refusal → Decoded
+  good : Command → Decoded
+
+abbrev pub firstFault : List Fault → Decoded → Decoded
+firstFault [] d = d
+firstFault (f ∷ fs) d = cond (f .found) (bad (f .why)) (firstFault fs d)
+
+-- 5 "fewer than four words left for a group", 6, 7, 8, then 9 "payload cut short":
+-- the command of a row with a header, before the words that follow it in the list
+unfoldable pub decodeRow : Row → ℕ → List ℕ → Decoded
+decodeRow r h ws =
+    let own = length (moreMasks r h) in
+    let all = own + payload (r .id) h in
+    let whole = cond (ltb (length ws) all) (bad (refusal 9 0)) (good (record { row = r; header = h; rest = take all ws })) in
+    cond (ltb (length ws) own) (bad (refusal 5 0)) (firstFault (faults r h (take own ws)) whole)
+
+-- 3 "unknown id", 4 "id 03 or 04"
+abbrev pub unknown : ℕ → ℕ
+unknown id = cond (eqb id 3 || eqb id 4) 4 3
+
+abbrev pub decodeKnown : ℕ → List ℕ → Option Row → Decoded
+decodeKnown w ws none = bad (refusal (unknown (idOf w)) 0)
+decodeKnown w ws (some r) = decodeRow r (headerOf w) ws
+
+-- the command whose first word is w, before the words ws
+unfoldable pub decode : ℕ → List ℕ → Decoded
+decode w ws = decodeKnown w ws (rowOf (idOf w))

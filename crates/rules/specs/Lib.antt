@@ -1,0 +1,12 @@
+pub mod Word
+pub mod Table
+pub mod Command
+pub mod Values
+pub mod Decode
+pub mod Image
+pub mod Walk
+pub mod Records
+pub mod Effect
+pub mod Form
+pub mod Answer
+pub mod Cases

@@ -1,0 +1,97 @@
+-- The rules on a command's own words: undefined bits, illegal values and clashes (document 01, "The commands").
+use Prim.Native.Nat.{ℕ, suc, _+_}
+use mathlib.Core.Bool.{Bool, cond, not, _&&_, _||_}
+use mathlib.Core.List.{List, [], _∷_, _++_}
+use lib.Dec.{eqb, leb, ltb}
+use lib.ListN.{getD}
+use Rattle.rules.specs.Word.{bits, undefined}
+use Rattle.rules.specs.Table.{Row}
+use Rattle.rules.specs.Command.{moreMasks}
+
+-- "A bad list is refused with a number and a word position."
+pub record Refusal : Type 0 where
+  pub number : ℕ
+  pub word : ℕ
+
+abbrev pub refusal : ℕ → ℕ → Refusal
+refusal n w = record { number = n; word = w }
+
+-- a test, and the refusal where it is true, its word counted from the command's first
+pub record Fault : Type 0 where
+  pub found : Bool
+  pub why : Refusal
+
+abbrev pub fault : Bool → ℕ → ℕ → Fault
+fault b n w = record { found = b; why = refusal n w }
+
+-- 6: "undefined bit set", at the "lowest such word", from word i on
+abbrev pub undefinedFaults : ℕ → List ℕ → List ℕ → List Fault
+undefinedFaults i [] ws = []
+undefinedFaults i (m ∷ ms) [] = []
+undefinedFaults i (m ∷ ms) (w ∷ ws) = fault (undefined w m) 6 i ∷ undefinedFaults (suc i) ms ws
+
+-- LOAD_GP (001, 4.1): "bit 23 converts IEEE floats, bits 22..20 are the load code, 18..10 the start offset, 8..0 the
+-- length". The header, then the second to fourth words.
+abbrev pub loadFaults : ℕ → ℕ → ℕ → ℕ → List Fault
+loadFaults h a b c =
+    let code = bits h 20 3 in
+    let bare = eqb code 0 || eqb code 5 in
+    -- "Codes are 0 null, 1 fetch, 2 put, 5 user clip planes; 3, 4, 6 and 7 are illegal."
+    fault ((eqb code 3 || eqb code 4) || leb 6 code) 7 0
+    -- "The second word is zero unless the code is 2."
+    ∷ fault (not (eqb code 2) && not (eqb a 0)) 7 1
+    -- "the third and fourth are zero for codes 0 and 5"
+    ∷ fault (bare && not (eqb b 0)) 7 2
+    ∷ fault (bare && not (eqb c 0)) 7 3
+    -- "bit 23 may be set only with code 5"
+    ∷ fault (not (eqb code 5) && eqb (bits h 23 1) 1) 8 0
+    -- "For code 5, offset plus length is at most 8"
+    ∷ fault (eqb code 5 && ltb 8 (bits h 10 9 + bits h 0 9)) 8 0
+    ∷ []
+
+-- Primitive: "only the null primitive, .., with header and three words all zero. Any other value is illegal."
+abbrev pub primitiveFaults : ℕ → ℕ → ℕ → ℕ → List Fault
+primitiveFaults h a b c =
+    fault (not (eqb h 0)) 7 0
+    ∷ fault (not (eqb a 0)) 7 1
+    ∷ fault (not (eqb b 0)) 7 2
+    ∷ fault (not (eqb c 0)) 7 3
+    ∷ []
+
+-- "the stored maximum is at most 15, 11 and 6" for banks 0, 1 and 2
+abbrev pub pageLimit : ℕ → ℕ
+pageLimit bank = cond (eqb bank 0) 15 (cond (eqb bank 1) 11 6)
+
+-- Window clip (001, 6.2): the second and third words. "bits 29..28 of the second word are the bank"; in the third,
+-- "bits 31..28 are the stored page maximum and bits 15..12 the stored minimum".
+abbrev pub clipFaults : ℕ → ℕ → List Fault
+clipFaults a b =
+    let bank = bits a 28 2 in
+    let most = bits b 28 4 in
+    let least = bits b 12 4 in
+    -- "3 is illegal"
+    fault (eqb bank 3) 7 1
+    ∷ fault (ltb (pageLimit bank) most) 8 0
+    -- "The stored minimum is zero or less than the stored maximum."
+    ∷ fault (not (eqb least 0) && leb most least) 8 0
+    ∷ []
+
+-- Raster mode (001, 6.3): "if header bit 22 (page-based rendering) is 0, bit 14 (always full page) is 0"
+abbrev pub rasterFaults : ℕ → List Fault
+rasterFaults h = fault (eqb (bits h 22 1) 0 && eqb (bits h 14 1) 1) 8 0 ∷ []
+
+-- 7 at the lowest such word, then 8, of a command with the given words after its first
+unfoldable pub valueFaults : ℕ → ℕ → List ℕ → List Fault
+valueFaults id h own =
+    let a = getD own 0 0 in
+    let b = getD own 1 0 in
+    let c = getD own 2 0 in
+    cond (eqb id 0x40) (loadFaults h a b c)
+    (cond (eqb id 0x48) (primitiveFaults h a b c)
+    (cond (eqb id 0x84) (clipFaults a b)
+    (cond (eqb id 0x88) (rasterFaults h) [])))
+
+-- 6, 7 and 8 in this order: a number goes over all the words before the next
+unfoldable pub faults : Row → ℕ → List ℕ → List Fault
+unfolding valueFaults
+faults r h own = undefinedFaults 0 (r .mask ∷ moreMasks r h) (h ∷ own) ++ valueFaults (r .id) h own

@@ -1,0 +1,75 @@
+-- The commands of a list, in list order through refusals 3 to 10 (document 01, "Verdicts and what stays").
+use Prim.Native.Nat.{ℕ, zero, suc, _+_}
+use mathlib.Core.Bool.{Bool, true, false, cond, not, _&&_}
+use mathlib.Core.List.{List, [], _∷_}
+use mathlib.Core.Option.{Option, none, some}
+use lib.Dec.{eqb, ltb}
+use lib.ListN.{length}
+use Rattle.rules.specs.Table.{isBegin, isBase}
+use Rattle.rules.specs.Command.{Command}
+use Rattle.rules.specs.Values.{Refusal, refusal}
+use Rattle.rules.specs.Decode.{Decoded, bad, good, decode}
+use Rattle.rules.specs.Image.{apply}
+
+-- what is carried along a list: that the last command was a surface base, and the image that the next command meets
+pub record State : Type 0 where
+  pub flip : Bool
+  pub image : List ℕ
+
+abbrev pub start : List ℕ → State
+start image = record { flip = false; image = image }
+
+-- Flip (001, 3.3): "after a surface base command (21, 23 or 25) the list ends, or the next command is a BEGIN".
+-- 10: "this command follows a surface base and is not a BEGIN"
+unfoldable pub order : State → Command → Option ℕ
+order s c = cond (s .flip && not (isBegin (c .row .kind))) (some 10) none
+
+-- "The image met by a work command is the one just before it."
+unfoldable pub next : State → Command → State
+next s c = record { flip = isBase (c .row .id); image = apply c (s .image) }
+
+-- one step: a refusal, its word counted from the command's first; or the command, and the state after it
+pub data Step : Type 0 where
+  stop : Refusal → Step
+  took : Command → State → Step
+
+abbrev pub inOrder : Option ℕ → Command → State → Step
+inOrder (some n) c t = stop (refusal n 0)
+inOrder none c t = took c t
+
+abbrev pub stepDecoded : State → Decoded → Step
+stepDecoded s (bad f) = stop f
+stepDecoded s (good c) = inOrder (order s c) c (next s c)
+
+unfoldable pub step : State → ℕ → List ℕ → Step
+step s w ws = stepDecoded s (decode w ws)
+
+-- the commands of an accepted list, or the refusal
+pub data Parsed : Type 0 where
+  refused : Refusal → Parsed
+  accepted : List Command → Parsed
+
+abbrev pub andThen : Command → Parsed → Parsed
+andThen c (refused f) = refused f
+andThen c (accepted cs) = accepted (c ∷ cs)
+
+-- from a step at position p on; `go` reads on behind the words of the command
+abbrev pub onward : ℕ → (State → ℕ → Parsed) → Step → Parsed
+onward p go (stop f) = refused (refusal (f .number) (p + f .word))
+onward p go (took c t) = andThen c (go t (length (c .rest)))
+
+-- the list from position p on, of which the first `skip` words belong to the command before
+unfoldable pub walk : State → ℕ → ℕ → List ℕ → Parsed
+walk s p skip [] = accepted []
+walk s p (suc skip) (w ∷ ws) = walk s (suc p) skip ws
+walk s p zero (w ∷ ws) = onward p (λ t skip. walk t (suc p) skip ws) (step s w ws)
+
+-- "Order: 1, then 2, then each command in list order": 1 "more than 4,096 words" at 4096, 2 "image not 256 words" at 0
+abbrev pub sized : Bool → Bool → Parsed → Parsed
+sized true wrong x = refused (refusal 1 4096)
+sized false true x = refused (refusal 2 0)
+sized false false x = x
+
+-- the whole list, from an image
+unfoldable pub parse : List ℕ → List ℕ → Parsed
+parse image ws = sized (ltb 4096 (length ws)) (not (eqb (length image) 256)) (walk (start image) 0 0 ws)

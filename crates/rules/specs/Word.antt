@@ -1,0 +1,33 @@
+-- A word of a list and its fields (document 01, "Words and sizes").
+use Prim.Native.Nat.{ℕ, zero, suc, _+_, _*_, _/_, _%_, _^_}
+use mathlib.Core.Bool.{Bool, cond}
+use lib.Dec.{leb, ltb}
+
+-- the n bits of a word from bit `low` up
+abbrev pub bits : ℕ → ℕ → ℕ → ℕ
+bits w low n = w / 2 ^ low % 2 ^ n
+
+-- "A command's first word holds its id in bits 31..24 and a 24-bit header below" (001, 2.1).
+abbrev pub idOf : ℕ → ℕ
+idOf w = w / 2 ^ 24
+
+abbrev pub headerOf : ℕ → ℕ
+headerOf w = w % 2 ^ 24
+
+abbrev pub firstWord : ℕ → ℕ → ℕ
+firstWord id header = id * 2 ^ 24 + header
+
+-- the lowest of the n low bits that is set in the word and not in the mask, n where there is none
+unfoldable pub lowest : ℕ → ℕ → ℕ → ℕ
+lowest zero w mask = zero
+lowest (suc n) w mask =
+    let higher = suc (lowest n (w / 2) (mask / 2)) in
+    cond (leb (w % 2) (mask % 2)) higher zero
+
+-- "A bit outside its mask must be zero": the lowest undefined bit set, 32 where there is none.
+abbrev pub lowestUndefined : ℕ → ℕ → ℕ
+lowestUndefined w mask = lowest 32 w mask
+
+unfoldable pub undefined : ℕ → ℕ → Bool
+unfolding lowest
+undefined w mask = ltb (lowestUndefined w mask) 32
