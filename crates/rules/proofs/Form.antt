@@ -36,7 +36,7 @@ form-work fi im c cs e n =
     final-append fi (differing settings fi im) (c ∷ []) ∙ ap (apply c) (flush fi im n) in
     rw (e, x)
 
-is-setting : (k : Kind) → isSetting k ≡ true → k ≡ setting
+pub is-setting : (k : Kind) → isSetting k ≡ true → k ≡ setting
 is-setting setting e = refl
 is-setting plain e = cc
 is-setting keeps e = cc
@@ -134,7 +134,7 @@ pub formOf : List ℕ → List Work → List ℕ → List ℕ
 formOf fi [] last = wordsAll (differing settings fi last)
 formOf fi (w ∷ ws) last = wordsAll (differing settings fi (w .met)) ++ (w .said ++ formOf (after (w .said) (w .met)) ws last)
 
-wordsAll-append : (a b : List Command) → wordsAll (a ++ b) ≡ wordsAll a ++ wordsAll b
+pub wordsAll-append : (a b : List Command) → wordsAll (a ++ b) ≡ wordsAll a ++ wordsAll b
 wordsAll-append [] b = refl
 wordsAll-append (c ∷ a) b = ap (λ (l : List ℕ). words c ++ l) (wordsAll-append a b) ∙ sym (append-assoc (words c) (wordsAll a) (wordsAll b))
 

@@ -68,3 +68,8 @@ equal-true (x ∷ xs) (y ∷ ys) e =
 pub equal-refl : (a : List ℕ) → equal a a ≡ true
 equal-refl [] = refl
 equal-refl (x ∷ xs) = ap₂ _&&_ (eq-eqb x x refl) (equal-refl xs)
+
+-- words put one after the other
+pub sets-append : (l : List ℕ) (i : ℕ) (a b : List ℕ) → sets l i (a ++ b) ≡ sets (sets l i a) (i + length a) b
+sets-append l i [] b = ap (λ (j : ℕ). sets l j b) (omega arith)
+sets-append l i (v ∷ a) b = sets-append (set l i v) (suc i) a b ∙ ap (λ (j : ℕ). sets (sets (set l i v) (suc i) a) j b) (omega arith)

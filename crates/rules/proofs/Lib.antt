@@ -5,8 +5,10 @@ pub mod Valid
 pub mod Parse
 pub mod Differing
 pub mod Form
+pub mod Numbers
 pub mod Verdict
 pub mod Records
 pub mod Outcomes
 pub mod Demands
+pub mod Walk
 pub mod Cases

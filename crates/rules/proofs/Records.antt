@@ -2,12 +2,13 @@
 use Prim.Native.Nat.{ℕ, suc, _+_}
 use mathlib.Core.Path.{_≡_, refl, ap, ap₂, sym, _∙_}
 use mathlib.Core.Bool.{true, false, cond}
-use mathlib.Core.List.{List, [], _∷_, map}
+use mathlib.Core.List.{List, [], _∷_, _++_, map}
+use native.Mathlib.Omega.{arith}
 use lib.Pow.{high, low}
-use lib.ListN.{length, getD, length-map}
+use lib.ListN.{length, getD, length-map, length-append}
 use Rattle.rules.specs.Word.{idOf, headerOf}
 use Rattle.rules.specs.Table.{isSetting}
-use Rattle.rules.specs.Command.{Command, words}
+use Rattle.rules.specs.Command.{Command, words, wordsAll}
 use Rattle.rules.specs.Image.{apply}
 use Rattle.rules.specs.Records.{Record, records, recordWords, withoutPositions}
 use Rattle.rules.specs.Effect.{Work, works}
@@ -61,3 +62,23 @@ records-same p q im jm cs ds v u e =
     words-unplaced (records p cs)
     ∙ ap unplacedWords (records-works p im cs v ∙ ap (map workRecord) e ∙ sym (records-works q jm ds u))
     ∙ sym (words-unplaced (records q ds))
+
+-- ---- lists of commands, one after the other
+
+pub records-append : (p : ℕ) (a b : List Command) → records p (a ++ b) ≡ records p a ++ records (p + length (wordsAll a)) b
+records-append p [] b = ap (λ (q : ℕ). records q b) (omega arith)
+records-append p (c ∷ a) b =
+    let n : ℕ = suc (length (c .rest)) in
+    let q : p + n + length (wordsAll a) ≡ p + length (wordsAll (c ∷ a)) = omega (arith, length-append (c .rest) (wordsAll a)) in
+    let ih : records (p + n) (a ++ b) ≡ records (p + n) a ++ records (p + length (wordsAll (c ∷ a))) b =
+    records-append (p + n) a b ∙ ap (λ (k : ℕ). records (p + n) a ++ records k b) q in
+    elim (isSetting (c .row .kind)) as (λ t.
+    cond t (records (p + n) (a ++ b)) (record { id = c .row .id; position = p; size = n; header = c .header } ∷ records (p + n) (a ++ b))
+    ≡ cond t (records (p + n) a) (record { id = c .row .id; position = p; size = n; header = c .header } ∷ records (p + n) a) ++ records (p + length (wordsAll (c ∷ a))) b) [
+      | true ↦ ih
+      | false ↦ ap (λ (l : List Record). record { id = c .row .id; position = p; size = n; header = c .header } ∷ l) ih
+    ]
+
+pub recordWords-append : (a b : List Record) → recordWords (a ++ b) ≡ recordWords a ++ recordWords b
+recordWords-append [] b = refl
+recordWords-append (r ∷ a) b = ap {B = List ℕ} (λ l. r .id ∷ r .position ∷ r .size ∷ r .header ∷ l) (recordWords-append a b)

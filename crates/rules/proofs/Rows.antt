@@ -30,6 +30,14 @@ found-passes p (s ∷ rs) i r t e =
       | inr h ↦ found-passes p rs i r (and-right (p s) (everyRow p rs) t) h
     ]
 
+-- every id is a byte
+byteId : Row → Bool
+byteId r = ltb (r .id) 256
+
+pub row-small : (i : ℕ) (r : Row) → rowOf i ≡ some r → r .id < 256
+unfolding byteId everyRow rowOf table
+row-small i r e = ltb-true _ _ (found-passes byteId table i r refl e)
+
 -- a row of the table that is a setting
 pub record Setting (r : Row) : Type 0 where
   pub found : rowOf (r .id) ≡ some r

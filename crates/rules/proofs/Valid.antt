@@ -11,7 +11,8 @@ use lib.ListN.{length, take}
 use lib.Seq.{take-take, length-take-le}
 use Rattle.rules.specs.Table.{setting, Row, rowOf}
 use Rattle.rules.specs.Command.{Command, moreMasks, payload}
-use Rattle.rules.specs.Values.{Refusal, refusal, Fault, faults}
+use Rattle.rules.specs.declared.Refusal.{Refusal}
+use Rattle.rules.specs.Values.{refusal, Fault, faults}
 use Rattle.rules.specs.Decode.{Decoded, bad, good, firstFault, decodeRow}
 use Rattle.rules.proofs.Rows.{Setting, setting-payload}
 

@@ -6,7 +6,8 @@ use lib.Dec.{ltb}
 use lib.ListN.{length, take, drop}
 use Rattle.rules.specs.declared.Answer.{Answer}
 use Rattle.rules.specs.Command.{Command, wordsAll}
-use Rattle.rules.specs.Values.{Refusal, refusal}
+use Rattle.rules.specs.declared.Refusal.{Refusal}
+use Rattle.rules.specs.Values.{refusal}
 use Rattle.rules.specs.Walk.{Parsed, refused, accepted, parse}
 use Rattle.rules.specs.Image.{final}
 use Rattle.rules.specs.Records.{records, recordWords}
@@ -20,13 +21,11 @@ pub record Outcome : Type 0 where
   pub buffer : List ℕ
 
 -- "On refusal the last three are 0, and image and buffers are as before."
+abbrev pub refusedAnswer : Refusal → Answer
+refusedAnswer f = record { verdict = f .number; position = f .word; commands = 0; records = 0; words = 0 }
+
 abbrev pub refuse : Refusal → List ℕ → List ℕ → Outcome
-refuse f image buffer =
-    record {
-      answer = record { verdict = f .number; position = f .word; commands = 0; records = 0; words = 0 };
-      image = image;
-      buffer = buffer;
-    }
+refuse f image buffer = record { answer = refusedAnswer f; image = image; buffer = buffer }
 
 -- 0 at "the list's length", with the words written. "On acceptance the words after those written are as before."
 abbrev pub accept : List ℕ → List Command → List ℕ → List ℕ → List ℕ → Outcome

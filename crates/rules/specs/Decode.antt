@@ -8,7 +8,8 @@ use lib.ListN.{length, take}
 use Rattle.rules.specs.Word.{idOf, headerOf}
 use Rattle.rules.specs.Table.{Row, rowOf}
 use Rattle.rules.specs.Command.{Command, moreMasks, payload}
-use Rattle.rules.specs.Values.{Refusal, refusal, Fault, faults}
+use Rattle.rules.specs.declared.Refusal.{Refusal}
+use Rattle.rules.specs.Values.{refusal, Fault, faults}
 
 -- a command, or a refusal whose word is counted from the command's first
 pub data Decoded : Type 0 where

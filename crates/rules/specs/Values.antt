@@ -4,15 +4,12 @@ use mathlib.Core.Bool.{Bool, cond, not, _&&_, _||_}
 use mathlib.Core.List.{List, [], _∷_, _++_}
 use lib.Dec.{eqb, leb, ltb}
 use lib.ListN.{getD}
+use Rattle.rules.specs.declared.Refusal.{Refusal}
 use Rattle.rules.specs.Word.{bits, undefined}
 use Rattle.rules.specs.Table.{Row}
 use Rattle.rules.specs.Command.{moreMasks}
 
--- "A bad list is refused with a number and a word position."
-pub record Refusal : Type 0 where
-  pub number : ℕ
-  pub word : ℕ
-
+-- a refusal's number and word
 abbrev pub refusal : ℕ → ℕ → Refusal
 refusal n w = record { number = n; word = w }
 

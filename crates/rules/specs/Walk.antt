@@ -7,7 +7,8 @@ use lib.Dec.{eqb, ltb}
 use lib.ListN.{length}
 use Rattle.rules.specs.Table.{isBegin, isBase}
 use Rattle.rules.specs.Command.{Command}
-use Rattle.rules.specs.Values.{Refusal, refusal}
+use Rattle.rules.specs.declared.Refusal.{Refusal}
+use Rattle.rules.specs.Values.{refusal}
 use Rattle.rules.specs.Decode.{Decoded, bad, good, decode}
 use Rattle.rules.specs.Image.{apply}
 

@@ -1,5 +1,11 @@
 // The rules of XP10 command lists are the definitions in specs/, and what follows of them is proved in proofs/.
-// No code stands here: only the answer that the definitions give and the functions above return.
+// No code stands here: only the values that the definitions give and the functions above return.
+
+// "A bad list is refused with a number and a word position."
+pub struct Refusal {
+    pub number: u32,
+    pub word: u32,
+}
 
 // "The answer has verdict, position, commands, records, and words written to the lent buffer."
 pub struct Answer {

@@ -1,0 +1,143 @@
+-- The first fault of a command, from the lent masks.
+use Prim.Native.Nat.{ℕ, zero, suc, _+_, _*_, _-_, _/_, _%_, _^_, _<_}
+use native.Mathlib.Nat.{pow-suc}
+use native.Mathlib.Omega.{arith}
+use mathlib.Core.Path.{_≡_, refl, ap, ap₂, sym, _∙_}
+use mathlib.Core.Bool.{Bool, true, false, cond, not, _&&_, _||_}
+use mathlib.Core.List.{List, [], _∷_}
+use lib.Dec.{eqb, leb, ltb}
+use lib.Pow.{pow-pos}
+use borrow.Author.Tests.{le-leb, not-true}
+use lib.ListN.{length, getD, take}
+use Rattle.rules.specs.declared.Refusal.{Refusal}
+use Rattle.rules.specs.Word.{lowest, undefined}
+use Rattle.rules.specs.Table.{Row}
+use Rattle.rules.specs.Values.{refusal, Fault, undefinedFaults, valueFaults, faults}
+use Rattle.rules.specs.Decode.{Decoded, bad, firstFault}
+use Rattle.rules.proofs.Bools.{and-left, and-right}
+use Rattle.rules.proofs.Numbers.{AllProper}
+use Rattle.command.specs.declared.Group.{Group}
+use Rattle.command.specs.Tables.{lineOf, rowAt, maskOf, maskTable, fourWords, KnownId}
+use Rattle.command.specs.Faults.{firstRefusal, found, none, four, own}
+use Rattle.command.proofs.Tables.{Known, ruled, known}
+
+-- every bit is defined under the mask of all bits
+ones : (k w : ℕ) → lowest k w (2 ^ k - 1) ≡ k
+unfolding lowest
+ones zero w = refl
+ones (suc k) w =
+    let p = pow-pos k in
+    let q = pow-suc 2 k in
+    let half : (2 ^ suc k - 1) / 2 ≡ 2 ^ k - 1 = omega arith in
+    let odd : (2 ^ suc k - 1) % 2 ≡ 1 = omega arith in
+    rw (half, odd, le-leb (w % 2) 1 (omega arith)) (ap suc (ones k (w / 2)))
+
+all-defined : (w : ℕ) → undefined w 0xFFFFFFFF ≡ false
+unfolding undefined
+all-defined w = ap (λ (k : ℕ). ltb k 32) (ones 32 w)
+
+no-case : {A : Type 0} (a b c d : Bool) (w x y z e : A) → ((a || b) || (c || d)) ≡ false → cond a w (cond b x (cond c y (cond d z e))) ≡ e
+no-case true _ _ _ w x y z e f = let u : _≡_ {A = Bool} true false = f in cc
+no-case false true _ _ w x y z e f = let u : _≡_ {A = Bool} true false = f in cc
+no-case false false true _ w x y z e f = let u : _≡_ {A = Bool} true false = f in cc
+no-case false false false true w x y z e f = let u : _≡_ {A = Bool} true false = f in cc
+no-case false false false false w x y z e f = refl
+
+unruled-values : (id h : ℕ) (ws : List ℕ) → ruled id ≡ false → valueFaults id h ws ≡ []
+unfolding valueFaults
+unruled-values id h ws e = no-case (eqb id 0x40) (eqb id 0x48) (eqb id 0x84) (eqb id 0x88) _ _ _ _ [] e
+
+-- the faults of a command with one word, and with four
+module _ (r : Row) (h a b c : ℕ) (m₀ m₁ m₂ m₃ : ℕ) where
+  pub by-masks : (more : List ℕ) → r .more ≡ more → (m₀ ∷ m₁ ∷ m₂ ∷ m₃ ∷ []) ≡ (maskOf r 0 ∷ maskOf r 1 ∷ maskOf r 2 ∷ maskOf r 3 ∷ [])
+      → (fours : Bool) → length more ≡ cond fours 3 0 → (fours ≡ false → ruled (r .id) ≡ false)
+      → four 6 (undefined h m₀) (undefined a m₁) (undefined b m₂) (undefined c m₃) (firstRefusal (valueFaults (r .id) h (a ∷ b ∷ c ∷ [])))
+      ≡ firstRefusal (faults r h (take (length (r .more)) (a ∷ b ∷ c ∷ [])))
+  unfolding faults
+  by-masks [] em e true l n = absurd (omega arith)
+  by-masks [] em e false l n =
+      let e₀ : m₀ ≡ r .mask = cc in
+      let e₁ : m₁ ≡ 0xFFFFFFFF = cc in
+      let e₂ : m₂ ≡ 0xFFFFFFFF = cc in
+      let e₃ : m₃ ≡ 0xFFFFFFFF = cc in
+      rw (em, e₀, e₁, e₂, e₃, all-defined a, all-defined b, all-defined c, unruled-values (r .id) h (a ∷ b ∷ c ∷ []) (n refl), unruled-values (r .id) h [] (n refl))
+  by-masks (x ∷ []) em e true l n = absurd (omega arith)
+  by-masks (x ∷ []) em e false l n = absurd (omega arith)
+  by-masks (x ∷ y ∷ []) em e true l n = absurd (omega arith)
+  by-masks (x ∷ y ∷ []) em e false l n = absurd (omega arith)
+  by-masks (x ∷ y ∷ z ∷ []) em e true l n =
+      let e₀ : m₀ ≡ r .mask = cc in
+      let e₁ : m₁ ≡ x = cc in
+      let e₂ : m₂ ≡ y = cc in
+      let e₃ : m₃ ≡ z = cc in
+      rw (em, e₀, e₁, e₂, e₃)
+  by-masks (x ∷ y ∷ z ∷ []) em e false l n = absurd (omega arith)
+  by-masks (x ∷ y ∷ z ∷ w ∷ rest) em e true l n = absurd (omega arith)
+  by-masks (x ∷ y ∷ z ∷ w ∷ rest) em e false l n = absurd (omega arith)
+
+-- the masks of an id's row in the lent table give the first fault of its command
+pub fault-is : (id row : ℕ) (g : Group) (l : List ℕ) → KnownId id → row ≡ lineOf id → l ≡ maskTable
+    → four 6 (undefined (g .header) (getD l (row * 4) 0)) (undefined (g .second) (getD l (row * 4 + 1) 0))
+    (undefined (g .third) (getD l (row * 4 + 2) 0)) (undefined (g .fourth) (getD l (row * 4 + 3) 0))
+    (firstRefusal (valueFaults id (g .header) (g .second ∷ g .third ∷ g .fourth ∷ [])))
+    ≡ firstRefusal (faults (rowAt id) (g .header) (own (rowAt id) g))
+fault-is id row g l i r e =
+    let k = known id i in
+    rw (e, r)
+    (ap (λ (j : ℕ). four 6 (undefined (g .header) (getD maskTable (lineOf id * 4) 0)) (undefined (g .second) (getD maskTable (lineOf id * 4 + 1) 0))
+    (undefined (g .third) (getD maskTable (lineOf id * 4 + 2) 0)) (undefined (g .fourth) (getD maskTable (lineOf id * 4 + 3) 0))
+    (firstRefusal (valueFaults j (g .header) (g .second ∷ g .third ∷ g .fourth ∷ [])))) (sym (k .own-id))
+    ∙ by-masks (rowAt id) (g .header) (g .second) (g .third) (g .fourth) _ _ _ _ (rowAt id .more) refl (k .masks) (fourWords (lineOf id)) (k .length-more)
+    (λ f. ap ruled (k .own-id) ∙ k .one-word f))
+
+-- a fault among four words, or a later one
+found-four : (a b c d : Bool) (next : Refusal) → ((a || b) || (c || d)) || found next ≡ found (four 6 a b c d next)
+found-four true _ _ _ next = refl
+found-four false true _ _ next = refl
+found-four false false true _ next = refl
+found-four false false false true next = refl
+found-four false false false false next = refl
+
+-- whether there is one
+pub faulty-is : (id row : ℕ) (g : Group) (l : List ℕ) → KnownId id → row ≡ lineOf id → l ≡ maskTable
+    → ((undefined (g .header) (getD l (row * 4) 0) || undefined (g .second) (getD l (row * 4 + 1) 0))
+    || (undefined (g .third) (getD l (row * 4 + 2) 0) || undefined (g .fourth) (getD l (row * 4 + 3) 0)))
+    || found (firstRefusal (valueFaults id (g .header) (g .second ∷ g .third ∷ g .fourth ∷ [])))
+    ≡ found (firstRefusal (faults (rowAt id) (g .header) (own (rowAt id) g)))
+faulty-is id row g l i r e =
+    found-four (undefined (g .header) (getD l (row * 4) 0)) (undefined (g .second) (getD l (row * 4 + 1) 0)) (undefined (g .third) (getD l (row * 4 + 2) 0))
+    (undefined (g .fourth) (getD l (row * 4 + 3) 0)) (firstRefusal (valueFaults id (g .header) (g .second ∷ g .third ∷ g .fourth ∷ [])))
+    ∙ ap found (fault-is id row g l i r e)
+
+pub found-any : (a b c d e f : Bool) → ((a || b) || (c || d)) || (e || f) ≡ found (four 7 a b c d (cond e (refusal 8 0) (cond f (refusal 8 0) none)))
+found-any true _ _ _ _ _ = refl
+found-any false true _ _ _ _ = refl
+found-any false false true _ _ _ = refl
+found-any false false false true _ _ = refl
+found-any false false false false true _ = refl
+found-any false false false false false true = refl
+found-any false false false false false false = refl
+
+no-words : (i : ℕ) (ms : List ℕ) → undefinedFaults i ms [] ≡ []
+no-words i [] = refl
+no-words i (m ∷ ms) = refl
+
+-- a command of one word has one rule
+pub single-fault : (id h : ℕ) (l : List ℕ) → KnownId id → fourWords (lineOf id) ≡ false → l ≡ maskTable
+    → firstRefusal (faults (rowAt id) h []) ≡ cond (undefined h (getD l (lineOf id * 4) 0)) (refusal 6 0) none
+unfolding faults
+single-fault id h l i f e =
+    let k = known id i in
+    let m : getD maskTable (lineOf id * 4) 0 ≡ rowAt id .mask = let q = k .masks in cc in
+    rw (e, m, no-words 1 (rowAt id .more), unruled-values (rowAt id .id) h [] (ap ruled (k .own-id) ∙ k .one-word f))
+
+-- the first fault, and what stands behind the faults
+pub first-fault : (m : ℕ) (fs : List Fault) (d : Decoded) → AllProper m fs
+    → firstFault fs d ≡ cond (eqb (firstRefusal fs .number) 0) d (bad (firstRefusal fs))
+first-fault m [] d p = refl
+first-fault m (f ∷ fs) d p =
+    (elim (f .found) as (λ t. cond t (bad (f .why)) (firstFault fs d)
+    ≡ cond (eqb ((cond t (f .why) (firstRefusal fs)) .number) 0) d (bad (cond t (f .why) (firstRefusal fs)))) [
+      | true ↦ ap (λ (b : Bool). cond b d (bad (f .why))) (sym (p .0 .number))
+      | false ↦ first-fault m fs d (p .1)
+    ])

@@ -1,0 +1,4 @@
+pub mod Masked
+pub mod Tables
+pub mod FirstFault
+pub mod Decoding

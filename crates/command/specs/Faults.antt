@@ -1,0 +1,34 @@
+-- The first fault of a command, as a refusal; number 0 where there is none.
+use Prim.Native.Nat.{ℕ}
+use mathlib.Core.Bool.{Bool, cond, not}
+use mathlib.Core.List.{List, [], _∷_}
+use lib.Dec.{eqb}
+use lib.ListN.{length, take}
+use Rattle.rules.specs.declared.Refusal.{Refusal}
+use Rattle.rules.specs.Table.{Row}
+use Rattle.rules.specs.Values.{refusal, Fault}
+use Rattle.command.specs.declared.Group.{Group}
+use Rattle.command.specs.declared.Faults.{Faults}
+
+abbrev pub none : Refusal
+none = refusal 0 0
+
+abbrev pub firstRefusal : List Fault → Refusal
+firstRefusal [] = none
+firstRefusal (f ∷ fs) = cond (f .found) (f .why) (firstRefusal fs)
+
+-- there is one
+abbrev pub found : Refusal → Bool
+found f = not (eqb (f .number) 0)
+
+-- a number at the first of four words at fault
+abbrev pub four : ℕ → Bool → Bool → Bool → Bool → Refusal → Refusal
+four n a b c d next = cond a (refusal n 0) (cond b (refusal n 1) (cond c (refusal n 2) (cond d (refusal n 3) next)))
+
+-- the first of the rules on values that a command breaks
+abbrev pub firstOf : Faults → Refusal
+firstOf f = four 7 (f .first) (f .second) (f .third) (f .fourth) (cond (f .clash) (refusal 8 0) (cond (f .«other_clash») (refusal 8 0) none))
+
+-- the words after the first that a row's command has of a group
+abbrev pub own : Row → Group → List ℕ
+own r g = take (length (r .more)) (g .second ∷ g .third ∷ g .fourth ∷ [])

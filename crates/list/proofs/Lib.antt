@@ -1,0 +1,5 @@
+pub mod Steps
+pub mod Turn
+pub mod Second
+pub mod Playing
+pub mod Reading

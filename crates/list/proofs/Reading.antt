@@ -1,0 +1,81 @@
+-- The reader's answer, by what the first pass found.
+use Prim.Native.Nat.{ℕ, _+_, _*_, _/_, _≤_, _<_}
+use native.Mathlib.Omega.{arith}
+use mathlib.Core.Path.{_≡_, refl, ap, sym, _∙_}
+use mathlib.Core.List.{List, [], _++_}
+use lib.Dec.{ltb}
+use borrow.Author.Tests.{lt-ltb, le-ltb}
+use lib.ListN.{length, drop}
+use lib.Seq.{sets, sets-eq}
+use Rattle.rules.specs.declared.Answer.{Answer}
+use Rattle.rules.specs.Command.{Command}
+use Rattle.rules.specs.Values.{refusal}
+use Rattle.rules.specs.Walk.{Parsed, refused, accepted, parse}
+use Rattle.rules.specs.Image.{final}
+use Rattle.rules.specs.Records.{records, recordWords}
+use Rattle.rules.specs.Answer.{Outcome, refusedAnswer, room, readParsed, reading, commandsOf}
+use Rattle.rules.proofs.Verdict.{length-recordWords}
+use Rattle.list.specs.declared.Walked.the-variants as walked
+use Rattle.list.specs.View.{walkedOf}
+
+-- an accepted list has the counts that were found
+pub record Counts (x : Parsed) (c k : ℕ) : Type 0 where
+  pub is : x ≡ accepted (commandsOf x)
+  pub commands : length (commandsOf x) ≡ c
+  pub records-are : length (records 0 (commandsOf x)) ≡ k
+
+pub counts : (x : Parsed) (c k : ℕ) → walkedOf x ≡ walked.Accepted c k → Counts x c k
+counts (refused f) c k e = let z : _≡_ {A = ℕ} 0 1 = cc in absurd (omega arith)
+counts (accepted cs) c k e = record { is = refl; commands = cc; records-are = cc }
+
+-- words put at the front of a buffer
+pub put-front : (buffer ws : List ℕ) → length ws ≤ length buffer → sets buffer 0 ws ≡ ws ++ drop (length ws) buffer
+put-front buffer ws h = let z : 0 + length ws ≡ length ws = omega arith in sets-eq ws buffer 0 (omega arith) ∙ ap (λ (n : ℕ). ws ++ drop n buffer) z
+
+module _ (l image buffer : List ℕ) where
+  by-refused : (x : Parsed) (n p : ℕ) → walkedOf x ≡ walked.Refused n p
+      → record { answer = refusedAnswer (refusal n p); image = image; buffer = buffer } ≡ readParsed l image buffer x
+  by-refused (refused f) n p e =
+      let en : f .number ≡ n = cc in
+      let ep : f .word ≡ p = cc in
+      rw (en, ep)
+  by-refused (accepted cs) n p e = let z : _≡_ {A = ℕ} 0 1 = cc in absurd (omega arith)
+
+  -- refusals 1 to 10
+  pub read-refused : (n p : ℕ) → walkedOf (parse image l) ≡ walked.Refused n p
+      → record { answer = refusedAnswer (refusal n p); image = image; buffer = buffer } ≡ reading l image buffer
+  unfolding reading
+  read-refused n p e = by-refused (parse image l) n p e
+
+  module _ (c k : ℕ) (e : walkedOf (parse image l) ≡ walked.Accepted c k) where
+    cs : List Command
+    cs = commandsOf (parse image l)
+
+    n : Counts (parse image l) c k
+    n = counts (parse image l) c k e
+
+    -- 11
+    pub read-short : length buffer / 4 < k
+        → record { answer = refusedAnswer (refusal 11 (length l)); image = image; buffer = buffer } ≡ reading l image buffer
+    unfolding reading cs
+    read-short h =
+        sym (ap (readParsed l image buffer) (n .is) ∙ rw (lt-ltb (room buffer) (length (records 0 (commandsOf (parse image l)))) (omega (arith, n .records-are))))
+
+    pub read-done : k ≤ length buffer / 4
+        → record {
+          answer = record { verdict = 0; position = length l; commands = c; records = k; words = k * 4 };
+          image = final image (commandsOf (parse image l));
+          buffer = sets buffer 0 (recordWords (records 0 (commandsOf (parse image l))));
+        } ≡ reading l image buffer
+    unfolding reading cs
+    read-done h =
+        let w = length-recordWords (records 0 (commandsOf (parse image l))) in
+        let words : length (recordWords (records 0 (commandsOf (parse image l)))) ≡ k * 4 = omega (arith, n .records-are) in
+        sym (ap (readParsed l image buffer) (n .is)
+        ∙ rw (
+          le-ltb (room buffer) (length (records 0 (commandsOf (parse image l)))) (omega (arith, n .records-are)),
+          ← put-front buffer (recordWords (records 0 (commandsOf (parse image l)))) (omega arith),
+          words,
+          n .commands,
+          n .records-are,
+        ))

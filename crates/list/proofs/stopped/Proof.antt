@@ -1,0 +1,12 @@
+use mathlib.Core.Path.{sym, ap}
+use Rattle.list.specs.View.{stoppedOf}
+use borrow.Author.Needs.{needs}
+use Rattle.list.proofs.stopped.Statement.{statement}
+use Rattle.list.proofs.stopped.Tie as tie
+
+returns-2 : tie.Need-returns-2
+returns-2 c = sym (ap stoppedOf (c .before .s .given .1))
+
+pub stopped-spec : {M : Type 1} → statement M
+stopped-spec = tie.close
+    (tie.spec (λ c. search needs) (λ c. search needs) (λ c. search needs) returns-2)

@@ -1,0 +1,164 @@
+//! Counts of verdicts over many cases, and the comparison with the proved library.
+
+use crate::lists::{self, Case, Image};
+use crate::outcome;
+
+const VERDICTS: usize = 12;
+
+/// How often each verdict was given.
+#[derive(Default)]
+struct Tally {
+    reader: [u64; VERDICTS],
+    normaliser: [u64; VERDICTS],
+}
+
+impl Tally {
+    fn print(&self) {
+        println!("verdict     reader normaliser");
+        for verdict in 0..VERDICTS {
+            println!("{verdict:7} {:10} {:10}", self.reader[verdict], self.normaliser[verdict]);
+        }
+    }
+}
+
+/// Counts the verdicts of the rules alone.
+pub fn count(cases: usize, seed: u64) {
+    let fixed = lists::fixed_cases();
+    let mut tally = Tally::default();
+    let mut words = 0;
+    for index in 0..cases {
+        let case = lists::case(&fixed, index, seed);
+        tally.reader[outcome::read(&case).answer[0] as usize] += 1;
+        tally.normaliser[outcome::normalise(&case).answer[0] as usize] += 1;
+        words += case.list.len();
+    }
+    tally.print();
+    println!("{cases} lists, {} of them fixed, {words} words", fixed.len().min(cases));
+}
+
+/// Prints a case and what the rules give for it.
+pub fn show(index: usize, seed: u64) {
+    let fixed = lists::fixed_cases();
+    let case = lists::case(&fixed, index, seed);
+    print_case(&case, usize::MAX);
+    for (name, outcome) in
+        [("reader", outcome::read(&case)), ("normaliser", outcome::normalise(&case))]
+    {
+        println!("{name}: {:?}", outcome.answer);
+        let written = outcome.answer[4] as usize;
+        println!("  written {}", hex(&outcome.buffer[..written], usize::MAX));
+        if outcome.image != case.image.words() {
+            println!("  image   {}", hex(&outcome.image, usize::MAX));
+        }
+    }
+}
+
+fn print_case(case: &Case, longest: usize) {
+    println!("  class   {}", case.class);
+    println!("  list    {}", hex(&case.list, longest));
+    match &case.image {
+        Image::Seeded { seed: 0, len } => println!("  image   {len} zero words"),
+        Image::Seeded { seed, len } => println!("  image   {len} words of seed {seed:08X}"),
+        Image::Words(words) => println!("  image   {}", hex(words, longest)),
+    }
+    println!("  room    {} words for records, {} for the form", case.records_len, case.out_len);
+}
+
+fn hex(words: &[u32], longest: usize) -> String {
+    let mut text = format!("{} words:", words.len());
+    for word in words.iter().take(longest) {
+        text += &format!(" {word:08X}");
+    }
+    if words.len() > longest {
+        text += " ...";
+    }
+    text
+}
+
+#[cfg(feature = "proved")]
+pub use with_proved::compare;
+
+#[cfg(feature = "proved")]
+mod with_proved {
+    use super::*;
+    use crate::outcome::{prefilled, Outcome};
+    use crate::proved::{self, Call};
+
+    /// Differing cases that are written out.
+    const SHOWN: u64 = 5;
+    const LONGEST_SHOWN: usize = 256;
+
+    /// Compares the rules with the proved library; true when nothing differs.
+    pub fn compare(cases: usize, seed: u64) -> bool {
+        let fixed = lists::fixed_cases();
+        let mut tally = Tally::default();
+        let mut differing = 0;
+        for index in 0..cases {
+            let case = lists::case(&fixed, index, seed);
+            let found = compare_case(&case, answer_len(index), &mut tally);
+            if found.is_empty() {
+                continue;
+            }
+            differing += 1;
+            if differing <= SHOWN {
+                println!("difference in case {index} of seed {seed}");
+                print_case(&case, LONGEST_SHOWN);
+                found.iter().for_each(|line| println!("  {line}"));
+            }
+        }
+        tally.print();
+        println!("{cases} lists, {} of them fixed", fixed.len().min(cases));
+        println!("{differing} differences");
+        differing == 0
+    }
+
+    /// Mostly room for the whole answer, at times less or more.
+    fn answer_len(index: usize) -> usize {
+        [5, 5, 5, 5, 5, 0, 1, 2, 3, 4, 6, 9, 5][index % 13]
+    }
+
+    fn compare_case(case: &Case, answer_len: usize, tally: &mut Tally) -> Vec<String> {
+        let mut found = Vec::new();
+        let expected = outcome::read(case);
+        tally.reader[expected.answer[0] as usize] += 1;
+        differences("reader", case, &expected, &proved::read(case, answer_len), &mut found);
+        let expected = outcome::normalise(case);
+        tally.normaliser[expected.answer[0] as usize] += 1;
+        let call = proved::normalise(case, answer_len);
+        differences("normaliser", case, &expected, &call, &mut found);
+        found
+    }
+
+    fn differences(
+        name: &str,
+        case: &Case,
+        expected: &Outcome,
+        call: &Call,
+        found: &mut Vec<String>,
+    ) {
+        let returned = expected.answer[0];
+        if call.returned != returned {
+            found.push(format!("{name} returned {}, expected {returned}", call.returned));
+        }
+        let mut answer = prefilled(call.answer.len());
+        let room = answer.len().min(5);
+        answer[..room].copy_from_slice(&expected.answer[..room]);
+        if call.answer != answer {
+            found.push(format!("{name} answer {:?}, expected {answer:?}", call.answer));
+        }
+        let pairs = [
+            ("list", &case.list, &call.list),
+            ("image", &expected.image, &call.image),
+            ("buffer", &expected.buffer, &call.buffer),
+        ];
+        for (what, wanted, given) in pairs {
+            if let Some(k) = (0..wanted.len()).find(|&k| wanted[k] != given[k]) {
+                let (wanted, given) = (wanted[k], given[k]);
+                found.push(format!("{name} {what} word {k}: {given:08X}, expected {wanted:08X}"));
+            }
+        }
+        if !call.kept_inside {
+            found.push(format!("{name} wrote outside a lent slice"));
+        }
+    }
+}

@@ -1,0 +1,650 @@
+//! Sets of lists that are the same in every run: each rule's boundary, from both sides.
+
+use super::commands::{
+    bits_of_word, clip, first_word, load_word, rows, valid, zeros, BEGINS, GROUPS, LEGAL_CODES,
+    SURFACE_BASES,
+};
+use super::{plain, with_buffers, with_surroundings, Case, Image, Purpose};
+use crate::paper;
+use crate::prng::{self, Prng};
+use crate::rules::{self, Kind, Row, IMAGE_WORDS, MAX_LIST_WORDS, TABLE};
+
+const FLUSH: u32 = 0x00000001;
+const TIMER: u32 = 0x02000000;
+
+struct Set {
+    class: &'static str,
+    lists: Vec<Vec<u32>>,
+    /// One list in this many is stored in the vectors file; none for 0.
+    stored_one_in: usize,
+}
+
+fn sets() -> Vec<Set> {
+    let set = |class, lists, stored_one_in| Set { class, lists, stored_one_in };
+    vec![
+        set("cases of 01 and the guide", papers(), 1),
+        set("every id alone", every_id_alone(), 1),
+        set("every id", every_id(), 16),
+        set("every undefined bit", every_bit(false), 1),
+        set("every defined bit", every_bit(true), 4),
+        set("every bit, not first", every_bit_not_first(), 40),
+        set("every bit of a load", every_load_bit(), 4),
+        set("all defined bits", all_defined_bits(), 1),
+        set("load codes", load_codes(), 1),
+        set("load lengths", load_lengths(), 1),
+        set("plane ranges", plane_ranges(), 1),
+        set("payload cut", payload_cuts(), 1),
+        set("payload like commands", payload_like_commands(), 12),
+        set("page thresholds at the limits", clip_limits(), 1),
+        set("page thresholds, all", clip_table(), 16),
+        set("raster bits", raster_bits(), 1),
+        set("primitive words", primitive_words(), 1),
+        set("after a surface base", after_base(), 1),
+        set("every id after a surface base", every_id_after_base(), 4),
+        set("group cut", group_cuts(), 1),
+        set("two faults", two_faults(), 1),
+        set("one setting around work", setting_around_work(), 8),
+        set("settings in any order", setting_orders(), 1),
+        set("sizes", sizes(), 1),
+        set("other sizes", other_sizes(), 0),
+    ]
+}
+
+/// Every list of the sets twice: with a zero image and room, and with other surroundings.
+pub fn fixed_cases() -> Vec<Case> {
+    let mut cases = Vec::new();
+    for set in sets() {
+        for list in set.lists {
+            let mut rng = Prng::new(1, cases.len() as u64);
+            cases.push(plain(set.class, list.clone(), Purpose::Run));
+            cases.push(with_surroundings(&mut rng, set.class, list, Purpose::Run));
+        }
+    }
+    cases.extend(paper_images());
+    cases.extend(stored_whole());
+    cases
+}
+
+/// Cases with surroundings of their own, all in the vectors file.
+fn stored_whole() -> Vec<Case> {
+    [equal_settings(), image_lengths(), buffer_lengths()].concat()
+}
+
+/// A sample of the sets that fits a small file.
+pub fn fixed_sample() -> Vec<Case> {
+    const LONGEST: usize = 48;
+    let mut rng = Prng::new(2, 0);
+    let mut cases = Vec::new();
+    for set in sets().into_iter().filter(|set| set.stored_one_in > 0) {
+        for list in set.lists {
+            let short = list.len() <= LONGEST || set.class == "sizes";
+            if short && rng.once_in(set.stored_one_in) {
+                cases.push(if rng.once_in(2) {
+                    plain(set.class, list, Purpose::Store)
+                } else {
+                    with_surroundings(&mut rng, set.class, list, Purpose::Store)
+                });
+            }
+        }
+    }
+    cases.extend(stored_whole());
+    cases
+}
+
+fn papers() -> Vec<Vec<u32>> {
+    let mut lists: Vec<Vec<u32>> = paper::CASES.iter().map(|case| case.list.to_vec()).collect();
+    lists.push(paper::LISTING_WORDS.to_vec());
+    lists
+}
+
+/// 01's cases that start from an image other than zeros.
+fn paper_images() -> Vec<Case> {
+    let of_case = |case: &paper::PaperCase| {
+        let mut image = vec![0; IMAGE_WORDS];
+        image[0x02] = case.timer;
+        let plain = plain("cases of 01 and the guide", case.list.to_vec(), Purpose::Run);
+        Case { image: Image::Words(image), ..plain }
+    };
+    paper::CASES.iter().filter(|case| case.timer != 0).map(of_case).collect()
+}
+
+fn every_id_alone() -> Vec<Vec<u32>> {
+    (0..256).map(|id| vec![first_word(id, 0)]).collect()
+}
+
+fn every_id() -> Vec<Vec<u32>> {
+    let mut lists = Vec::new();
+    for id in 0..256 {
+        for header in [0, 1, 0x400000, 0xFFFFFF] {
+            let first = first_word(id, header);
+            lists.push(vec![first]);
+            lists.push(vec![FLUSH, first]);
+            lists.push(vec![first, 0, 0, 0]);
+            lists.push(vec![FLUSH, first, 0, 0]);
+        }
+    }
+    lists
+}
+
+/// Each bit below the id of each word, alone: those in the masks, or those outside.
+fn every_bit(defined: bool) -> Vec<Vec<u32>> {
+    let mut lists = Vec::new();
+    for row in &TABLE {
+        for (k, mask) in row.masks.iter().enumerate() {
+            let bits = (0..bits_of_word(k)).map(|number| 1 << number);
+            for bit in bits.filter(|bit| (mask & bit != 0) == defined) {
+                let mut list = zeros(row);
+                list[k] |= bit;
+                lists.push(list);
+            }
+        }
+    }
+    lists
+}
+
+/// The same where it isn't the first command, and with room for a payload behind it.
+fn every_bit_not_first() -> Vec<Vec<u32>> {
+    let within = |list: Vec<u32>| [&[TIMER], &list[..], &[0; 40]].concat();
+    let all = [every_bit(true), every_bit(false)].concat();
+    all.into_iter().map(within).collect()
+}
+
+fn every_load_bit() -> Vec<Vec<u32>> {
+    let mut lists = Vec::new();
+    for code in LEGAL_CODES {
+        for k in 0..4 {
+            for number in 0..bits_of_word(k) {
+                let mut list = vec![load_word(false, code, 0, 0), 0, 0, 0];
+                list[k] |= 1 << number;
+                lists.push(list);
+            }
+        }
+    }
+    lists
+}
+
+fn all_defined_bits() -> Vec<Vec<u32>> {
+    let mut lists = Vec::new();
+    for row in &TABLE {
+        let mut all = zeros(row);
+        for k in 0..row.masks.len() {
+            let mut one = zeros(row);
+            one[k] |= row.masks[k];
+            all[k] |= row.masks[k];
+            lists.push(one);
+        }
+        lists.push(all);
+    }
+    lists
+}
+
+fn load_codes() -> Vec<Vec<u32>> {
+    let mut lists = Vec::new();
+    for code in 0..8 {
+        for convert in [false, true] {
+            for used in 0..8 {
+                let word = |k: u32| if used >> k & 1 == 1 { 0x00000001 } else { 0 };
+                lists.push(vec![load_word(convert, code, 0, 0), word(0), word(1), word(2)]);
+            }
+        }
+    }
+    lists
+}
+
+/// Lengths with all bits of the length, and offsets that must not count in it.
+fn load_lengths() -> Vec<Vec<u32>> {
+    let mut lists = Vec::new();
+    for code in [0, 1, 2] {
+        for length in [0, 1, 2, 3, 8, 9, 128, 255, 256, 511] {
+            for offset in [0, 1, 511] {
+                let mut list = vec![load_word(false, code, offset, length), 0, 0, 0];
+                list.resize(4 + 4 * length as usize, 0x02000001);
+                list.push(0x02000002);
+                lists.push(list.clone());
+                list.truncate(4 + 4 * length as usize);
+                lists.push(list.clone());
+                if length > 0 {
+                    list.pop();
+                    lists.push(list);
+                }
+            }
+        }
+    }
+    lists
+}
+
+fn plane_ranges() -> Vec<Vec<u32>> {
+    let mut lists = Vec::new();
+    for offset in [0, 1, 2, 4, 6, 7, 8, 9, 256, 511] {
+        for length in [0, 1, 2, 4, 6, 7, 8, 9] {
+            let near_limit = (7..=9).contains(&(offset + length)) || offset + length > 255;
+            if length > 2 && !near_limit {
+                continue;
+            }
+            for convert in [false, true] {
+                let mut list = vec![load_word(convert, 5, offset, length), 0, 0, 0];
+                lists.push(list.clone());
+                list.resize(4 + 4 * length as usize, 0x03000000);
+                lists.push(list);
+            }
+        }
+    }
+    lists
+}
+
+fn payload_cuts() -> Vec<Vec<u32>> {
+    let mut lists = Vec::new();
+    for code in LEGAL_CODES {
+        for length in 1..=3 {
+            for present in 0..=4 * length + 1 {
+                let mut list = vec![load_word(false, code, 0, length), 0, 0, 0];
+                list.resize(4 + present as usize, FLUSH);
+                lists.push(list);
+            }
+        }
+    }
+    lists
+}
+
+fn payload_like_commands() -> Vec<Vec<u32>> {
+    let mut lists = Vec::new();
+    for id in 0..256 {
+        for code in LEGAL_CODES {
+            let word = first_word(id, 0x000010);
+            let load = [load_word(false, code, 0, 1), 0, 0, 0];
+            lists.push([load, [word; 4], [0x02000007, FLUSH, 0x02000008, FLUSH]].concat());
+        }
+    }
+    lists
+}
+
+fn clip_limits() -> Vec<Vec<u32>> {
+    let mut lists = Vec::new();
+    for bank in 0..4 {
+        let limit = [15, 11, 6, 15][bank as usize];
+        for maximum in [0, 1, limit - 1, limit, (limit + 1).min(15), 15] {
+            for minimum in [0, 1, limit - 2, limit - 1, limit, (limit + 1).min(15)] {
+                lists.push(clip(bank, maximum, minimum));
+            }
+        }
+    }
+    lists
+}
+
+fn clip_table() -> Vec<Vec<u32>> {
+    let mut lists = Vec::new();
+    for bank in 0..4 {
+        for maximum in 0..16 {
+            for minimum in 0..16 {
+                let mut list = clip(bank, maximum, minimum);
+                // The other fields full, which must change nothing.
+                list[0] |= 0xFFFFFF;
+                list[1] |= 0x0FFF0FFF;
+                list[2] |= 0x0FFF0FFF;
+                list[3] = 0xFFFFFFFF;
+                lists.push(list);
+            }
+        }
+    }
+    lists
+}
+
+fn raster_bits() -> Vec<Vec<u32>> {
+    let mut lists = Vec::new();
+    for pages in [0, 1 << 22] {
+        for full_page in [0, 1 << 14] {
+            for others in [0, 0xA7BFFF, 0x202000, 0x808000] {
+                lists.push(vec![0x88000000 | pages | full_page | others, 0, 0, 0]);
+            }
+        }
+    }
+    lists
+}
+
+fn primitive_words() -> Vec<Vec<u32>> {
+    let mut lists = Vec::new();
+    for used in 0..16 {
+        for value in [0x000001, 0x800000] {
+            let word = |k: u32| if used >> k & 1 == 1 { value } else { 0 };
+            lists.push(vec![0x48000000 | word(0), word(1), word(2), word(3)]);
+        }
+    }
+    lists
+}
+
+fn after_base() -> Vec<Vec<u32>> {
+    let mut lists = Vec::new();
+    for base in SURFACE_BASES {
+        let base = first_word(base, 0x800123);
+        lists.push(vec![base]);
+        for begin in BEGINS {
+            let begin = first_word(begin, 0x100000);
+            lists.push(vec![base, begin, 0, 0]);
+            lists.push(vec![base, begin, 0, 0, 0, base]);
+            lists.push(vec![base, begin, 0, 0, 0, TIMER]);
+            lists.push(vec![base, begin, 0, 0, 0, base, begin, 0, 0, 0]);
+            lists.push(vec![base, begin, 0, 0, 0, base, FLUSH]);
+            lists.push(vec![base, begin, 0, 0, 1]);
+            lists.push(vec![FLUSH, begin, 0, 0, 0, base]);
+        }
+        // Verdicts 6 to 9 go ahead of 10; the last has 10 alone.
+        lists.push(vec![base, 0x01000002]);
+        lists.push(vec![base, 0x48000001, 0, 0, 0]);
+        lists.push(vec![base, 0x88004000, 0, 0, 0]);
+        lists.push(vec![base, 0x40000001, 0, 0, 0, 0, 0, 0]);
+        lists.push(vec![base, 0x40000001, 0, 0, 0, 0, 0, 0, 0]);
+        // A word of a payload or of a group is no surface base.
+        lists.push(vec![0x40000001, 0, 0, 0, base, base, base, base, FLUSH]);
+        lists.push(vec![0x84000000, 0, 0, base, FLUSH]);
+    }
+    lists
+}
+
+fn every_id_after_base() -> Vec<Vec<u32>> {
+    let mut lists = Vec::new();
+    for base in SURFACE_BASES {
+        for id in 0..256 {
+            lists.push(vec![first_word(base, 0), first_word(id, 0), 0, 0, 0]);
+        }
+    }
+    lists
+}
+
+fn group_cuts() -> Vec<Vec<u32>> {
+    let mut lists = Vec::new();
+    for id in GROUPS {
+        for words in 1..=4 {
+            // 5 goes ahead of 6.
+            for fill in [0, 0xFFFFFFFF] {
+                let mut list = vec![fill; words];
+                list[0] = first_word(id, fill & 0xFFFFFF);
+                lists.push(list.clone());
+                list.insert(0, TIMER);
+                lists.push(list);
+            }
+        }
+    }
+    lists
+}
+
+/// Two faults, where the order decides which one is told.
+fn two_faults() -> Vec<Vec<u32>> {
+    vec![
+        // Undefined bits in two words: the lowest.
+        vec![0x88180000, 0xFF000000, 0, 0],
+        vec![0x88000000, 0xFF000000, 0xFF000000, 0],
+        vec![0x88000000, 0, 0xFF000000, 0xFF000000],
+        vec![0x10000000, 0x40000000, 0xF0000000, 1],
+        // An undefined bit ahead of an illegal value.
+        vec![0x40380000, 0, 0, 0],
+        vec![0x40300200, 1, 0, 0],
+        vec![0x84000000, 0xB0000000, 0, 0],
+        vec![0x84000000, 0x30001000, 0, 0],
+        // An undefined bit ahead of a clash.
+        vec![0x88084000, 0, 0, 0],
+        vec![0x88004000, 0, 0, 0x01000000],
+        vec![0x84000000, 0x50000000, 0xF0000000, 0],
+        vec![0x40580009, 0, 0, 0],
+        // An illegal value ahead of a clash.
+        vec![0x40B00000, 0, 0, 0],
+        vec![0x40800000, 1, 0, 0],
+        vec![0x40800000, 0, 1, 0],
+        vec![0x40800000, 0, 0, 1],
+        vec![0x40500009, 0, 0, 1],
+        vec![0x84000000, 0x30000000, 0x10001000, 0],
+        // Illegal values in two words: the lowest.
+        vec![0x40700000, 1, 1, 1],
+        vec![0x40000000, 1, 1, 1],
+        vec![0x40500000, 0, 1, 1],
+        vec![0x40100000, 1, 0, 0],
+        vec![0x48000001, 1, 1, 1],
+        vec![0x48000000, 0, 1, 1],
+        // Both page thresholds; bit 23 and the payload; the plane range and the payload.
+        vec![0x84000000, 0x20000000, 0x7000F000, 0],
+        vec![0x40800001, 0, 0, 0],
+        vec![0x40500009, 0, 0, 0],
+        // An illegal value ahead of a payload cut short.
+        vec![0x40300001, 0, 0, 0],
+        vec![0x40000001, 1, 0, 0],
+        // Faults in two commands: the first one's.
+        vec![0x01000002, 0x06000000],
+        vec![0x06000000, 0x03000000],
+        vec![0x04000000, 0x06000000],
+        vec![0x02000001, 0x04000000, 0x01000002],
+        vec![0x40000003, 0, 0, 0, 0x06000000, 0x03000000],
+        vec![0x21000000, 0x06000000],
+        vec![0x21000000, 0x03000000],
+        vec![0x21000000, 0x84000000],
+    ]
+}
+
+fn full_setting(row: &Row) -> Vec<u32> {
+    let mut rng = Prng::new(3, row.id as u64);
+    loop {
+        let words = valid(&mut rng, row.id);
+        let values = words.iter().skip(1).all(|&word| word != 0);
+        if values && (words[0] & 0xFFFFFF != 0 || row.masks[0] == 0) {
+            return words;
+        }
+    }
+}
+
+/// A work command that is accepted, with a non-zero header where it can be.
+fn plain_work(row: &Row) -> Vec<u32> {
+    let mut words = zeros(row);
+    match row.id {
+        0x40 => words = paper::GUIDE_PUT.to_vec(),
+        0x48 => {}
+        _ => words[0] |= row.masks[0] & 0x00F7F4,
+    }
+    words
+}
+
+/// A setting changed, changed back and repeated around each work command.
+fn setting_around_work() -> Vec<Vec<u32>> {
+    let mut lists = Vec::new();
+    for setting in rows(Kind::Setting) {
+        let (on, off) = (full_setting(setting), zeros(setting));
+        for row in rows(Kind::Work) {
+            let mut work = plain_work(row);
+            if rules::is_surface_base(row.id) {
+                work.extend([0x10100007, 0, 0, 0]);
+            }
+            for parts in around(&on, &off, &work) {
+                lists.push(parts.concat());
+            }
+        }
+    }
+    lists
+}
+
+fn around<'a>(on: &'a [u32], off: &'a [u32], work: &'a [u32]) -> Vec<Vec<&'a [u32]>> {
+    vec![
+        vec![on, work],
+        vec![work, on],
+        vec![on, work, off],
+        vec![on, work, off, work],
+        vec![on, work, on, work],
+        vec![on, off, work],
+        vec![off, on, work, off, on],
+        vec![on, work, off, on, work],
+        vec![on, work, off, off, on, off, work, on],
+    ]
+}
+
+fn setting_orders() -> Vec<Vec<u32>> {
+    let all: Vec<Vec<u32>> = rows(Kind::Setting).map(full_setting).collect();
+    let flush = vec![FLUSH];
+    let mut lists = Vec::new();
+    for a in &all {
+        for b in &all {
+            if a[0] >> 24 != b[0] >> 24 {
+                lists.push([&a[..], b, &flush].concat());
+                lists.push([&a[..], &flush, b].concat());
+            }
+        }
+    }
+    let rising = all.concat();
+    let falling: Vec<u32> = all.iter().rev().flatten().copied().collect();
+    lists.push([&rising[..], &flush].concat());
+    lists.push([&falling[..], &flush].concat());
+    lists.push([&falling[..], &flush, &rising].concat());
+    lists.push(falling);
+    // One word of a group not zero: the whole group is written.
+    for row in rows(Kind::Setting) {
+        let full = full_setting(row);
+        for k in 0..full.len() {
+            let mut one = zeros(row);
+            one[k] |= full[k];
+            lists.push([&one[..], &flush, &zeros(row), &flush].concat());
+        }
+    }
+    lists
+}
+
+/// Settings that all differ, without work.
+fn timers(words: usize) -> Vec<u32> {
+    (0..words as u32).map(|k| TIMER | k).collect()
+}
+
+fn sizes() -> Vec<Vec<u32>> {
+    let max = MAX_LIST_WORDS;
+    vec![
+        vec![],
+        timers(1),
+        timers(max - 1),
+        timers(max),
+        timers(max + 1),
+        long_loads(),
+        timers_then(&[0x06000000]),
+        vec![FLUSH; max],
+    ]
+}
+
+fn other_sizes() -> Vec<Vec<u32>> {
+    let max = MAX_LIST_WORDS;
+    vec![
+        timers_then(&[0x10000000, 0, 0, 0]),
+        timers_then(&[0x10000000, 0, 0]),
+        timers_then(&[0x40000001, 0, 0, 0, 0, 0, 0]),
+        timers_then(&[0x40000001, 0, 0, 0, 0, 0, 0, 0]),
+        vec![0x06000000; max + 1],
+        vec![FLUSH; max + 1],
+        timers(2 * max),
+        vec![0; 3 * max],
+    ]
+}
+
+/// A list of the largest length that ends with these words.
+fn timers_then(last: &[u32]) -> Vec<u32> {
+    [&timers(MAX_LIST_WORDS - last.len())[..], last].concat()
+}
+
+/// Two loads of 511 groups; the words of the payloads would be settings.
+fn long_loads() -> Vec<u32> {
+    let mut list = vec![0x02000001; MAX_LIST_WORDS];
+    list[..4].copy_from_slice(&[load_word(false, 1, 0, 511), 0, 1, 2]);
+    list[2048..2052].copy_from_slice(&[load_word(false, 2, 511, 511), 3, 4, 5]);
+    list
+}
+
+/// Images of other lengths, with lists that would be refused or not, and with no room.
+fn image_lengths() -> Vec<Case> {
+    let lists = [
+        vec![],
+        vec![FLUSH],
+        vec![0x02000010],
+        vec![0x06000000],
+        vec![0x84000000, 0, 0],
+        vec![0x21000000, FLUSH],
+    ];
+    let mut cases = Vec::new();
+    for len in [0, 1, 2, 64, 255, 256, 257, 300] {
+        for (k, list) in lists.iter().enumerate() {
+            let case = plain("image lengths", list.clone(), Purpose::Store);
+            let room = if k % 2 == 0 { 0 } else { 8 };
+            let image = Image::Seeded { seed: len as u32 * k as u32, len };
+            cases.push(Case { image, records_len: room, out_len: room, ..case });
+        }
+    }
+    // Too many words, ahead of the image.
+    for len in [0, 255] {
+        let list = timers(MAX_LIST_WORDS + 1);
+        let case = plain("image lengths", list, Purpose::Store);
+        cases.push(Case { image: Image::Seeded { seed: 1, len }, ..case });
+    }
+    cases
+}
+
+/// A list with three records and a form of nine words, and one with neither.
+fn buffer_lengths() -> Vec<Case> {
+    let both = vec![0x02000010, FLUSH, 0x8C000001, 1, 2, 3, FLUSH, 0x02000011, 0x05000001];
+    let neither = vec![0x02000010, 0x02000000];
+    let mut cases = Vec::new();
+    for list in [both, neither] {
+        for room in 0..=18 {
+            let case = plain("buffer lengths", list.clone(), Purpose::Store);
+            cases.push(Case { records_len: room, out_len: room, ..case });
+        }
+    }
+    cases
+}
+
+/// Lists whose settings are what the starting image has, which is one that can be stored.
+fn equal_settings() -> Vec<Case> {
+    let mut cases = Vec::new();
+    for row in rows(Kind::Setting) {
+        let Some((seed, equal)) = seed_and_equal_setting(row) else {
+            continue;
+        };
+        let other = full_setting(row);
+        let away = around(&other, &equal, &[FLUSH]);
+        let back = around(&equal, &other, &[0x05000001]);
+        for parts in [away, back].concat() {
+            let mut rng = Prng::new(4, cases.len() as u64);
+            let image = Image::Seeded { seed, len: IMAGE_WORDS };
+            let list = parts.concat();
+            cases.push(with_buffers(&mut rng, "equal to the image", list, image, Purpose::Store));
+        }
+    }
+    cases
+}
+
+/// A seed in whose image the setting's words are those of a valid command, and that command.
+fn seed_and_equal_setting(row: &Row) -> Option<(u32, Vec<u32>)> {
+    const TRIES: usize = 20_000;
+    let mut rng = Prng::new(5, row.id as u64);
+    let first = row.id as usize;
+    (0..TRIES).find_map(|_| {
+        let header = rng.word() & row.masks[0];
+        let seed = prng::seed_with_word(first, header);
+        let image = prng::seeded_words(seed, IMAGE_WORDS);
+        let mut words = image[first..first + row.masks.len()].to_vec();
+        words[0] |= row.id << 24;
+        (header != 0 && rules::commands(&words).is_ok()).then_some((seed, words))
+    })
+}
+
+#[cfg(test)]
+mod tests {
+    use super::super::commands::BANK_LIMITS;
+    use super::*;
+
+    #[test]
+    fn stored_images_equal_settings() {
+        for id in [0x02, 0x26, 0x30, 0x31, 0x84, 0x8C] {
+            let row = rules::row_of(id).expect("a known id");
+            assert!(seed_and_equal_setting(row).is_some(), "setting {id:02x}");
+        }
+    }
+
+    #[test]
+    fn bank_limits_are_tried_on_both_sides() {
+        let lists = clip_limits();
+        for (bank, limit) in BANK_LIMITS.into_iter().enumerate() {
+            for maximum in [limit, (limit + 1).min(15)] {
+                assert!(lists.contains(&clip(bank as u32, maximum, 0)));
+            }
+        }
+    }
+}

@@ -1,0 +1,103 @@
+//! A second implementation of document 01, to compare with the proved one.
+
+mod compare;
+mod listings;
+mod lists;
+mod outcome;
+mod paper;
+mod prng;
+#[cfg(feature = "proved")]
+mod proved;
+mod rules;
+mod self_test;
+mod vectors;
+
+use std::env;
+use std::io::{self, Read, Write};
+use std::path::Path;
+use std::process::ExitCode;
+
+const USAGE: &str = "\
+usage: second self-test          check the rules against the paper's cases and demand 3
+       second count N [SEED]     count the verdicts on N lists
+       second compare N [SEED]   compare with the proved library on N lists (feature `proved`)
+       second case K [SEED]      print case K and what the rules give for it
+       second vectors            write the file of cases and digests to standard output
+       second listings FOLDER    write inputs and outputs of the listing program
+       second listing            print the listing of standard input
+";
+
+const USAGE_STATUS: u8 = 2;
+
+fn main() -> ExitCode {
+    let words: Vec<String> = env::args().skip(1).collect();
+    let words: Vec<&str> = words.iter().map(String::as_str).collect();
+    match run(&words) {
+        Ok(status) => status,
+        Err(error) => {
+            eprintln!("second: {error}");
+            ExitCode::FAILURE
+        }
+    }
+}
+
+fn run(words: &[&str]) -> io::Result<ExitCode> {
+    match words {
+        ["self-test"] => self_test(),
+        ["vectors"] => io::stdout().write_all(&listings::bytes(&vectors::words()))?,
+        ["listings", folder] => listings::write(Path::new(folder))?,
+        ["listing"] => listing()?,
+        [command, number, seed @ ..] if seed.len() <= 1 => {
+            let seed = seed.first().unwrap_or(&"1").parse();
+            let (Ok(number), Ok(seed)) = (number.parse(), seed) else {
+                return Ok(usage());
+            };
+            return Ok(numbered(command, number, seed));
+        }
+        _ => return Ok(usage()),
+    }
+    Ok(ExitCode::SUCCESS)
+}
+
+fn numbered(command: &str, number: usize, seed: u64) -> ExitCode {
+    match command {
+        "count" => compare::count(number, seed),
+        "case" => compare::show(number, seed),
+        "compare" => return compared(number, seed),
+        _ => return usage(),
+    }
+    ExitCode::SUCCESS
+}
+
+#[cfg(feature = "proved")]
+fn compared(cases: usize, seed: u64) -> ExitCode {
+    if compare::compare(cases, seed) {
+        ExitCode::SUCCESS
+    } else {
+        ExitCode::FAILURE
+    }
+}
+
+#[cfg(not(feature = "proved"))]
+fn compared(_cases: usize, _seed: u64) -> ExitCode {
+    eprintln!("second: built without the feature `proved`");
+    ExitCode::from(USAGE_STATUS)
+}
+
+fn self_test() {
+    for (name, check) in self_test::CHECKS {
+        check();
+        println!("passed: {name}");
+    }
+}
+
+fn listing() -> io::Result<()> {
+    let mut input = Vec::new();
+    io::stdin().read_to_end(&mut input)?;
+    io::stdout().write_all(rules::listing(&input).as_bytes())
+}
+
+fn usage() -> ExitCode {
+    eprint!("{USAGE}");
+    ExitCode::from(USAGE_STATUS)
+}

@@ -1,0 +1,138 @@
+//! The proved library's functions, called with words around each lent slice that must stay.
+
+use crate::lists::Case;
+use crate::outcome::prefilled;
+
+extern "C" {
+    fn xp10_read(
+        list: *const u32,
+        list_len: usize,
+        image: *mut u32,
+        image_len: usize,
+        records: *mut u32,
+        records_len: usize,
+        answer: *mut u32,
+        answer_len: usize,
+    ) -> u32;
+
+    fn xp10_normalise(
+        list: *const u32,
+        list_len: usize,
+        image: *const u32,
+        image_len: usize,
+        out: *mut u32,
+        out_len: usize,
+        answer: *mut u32,
+        answer_len: usize,
+    ) -> u32;
+}
+
+/// What a call returned and left in the lent words.
+pub struct Call {
+    pub returned: u32,
+    pub list: Vec<u32>,
+    pub image: Vec<u32>,
+    pub buffer: Vec<u32>,
+    pub answer: Vec<u32>,
+    /// No word next to a lent slice has changed.
+    pub kept_inside: bool,
+}
+
+const GUARD_WORDS: usize = 8;
+const GUARD: u32 = 0x5AFE_C0DE;
+
+/// A slice to lend, between guard words. Its pointer is never null, even when it is empty.
+struct Lent(Vec<u32>);
+
+impl Lent {
+    fn new(words: &[u32]) -> Lent {
+        let guard = [GUARD; GUARD_WORDS];
+        Lent([&guard, words, &guard].concat())
+    }
+
+    fn words(&mut self) -> &mut [u32] {
+        let end = self.0.len() - GUARD_WORDS;
+        &mut self.0[GUARD_WORDS..end]
+    }
+
+    fn guards_kept(&self) -> bool {
+        let (front, rest) = self.0.split_at(GUARD_WORDS);
+        let back = &rest[rest.len() - GUARD_WORDS..];
+        front.iter().chain(back).all(|&word| word == GUARD)
+    }
+}
+
+struct LentWords {
+    list: Lent,
+    image: Lent,
+    buffer: Lent,
+    answer: Lent,
+}
+
+impl LentWords {
+    fn new(case: &Case, buffer_len: usize, answer_len: usize) -> LentWords {
+        LentWords {
+            list: Lent::new(&case.list),
+            image: Lent::new(&case.image.words()),
+            buffer: Lent::new(&prefilled(buffer_len)),
+            answer: Lent::new(&prefilled(answer_len)),
+        }
+    }
+
+    fn call(mut self, returned: u32) -> Call {
+        let lent = [&self.list, &self.image, &self.buffer, &self.answer];
+        let kept_inside = lent.iter().all(|words| words.guards_kept());
+        Call {
+            returned,
+            list: self.list.words().to_vec(),
+            image: self.image.words().to_vec(),
+            buffer: self.buffer.words().to_vec(),
+            answer: self.answer.words().to_vec(),
+            kept_inside,
+        }
+    }
+}
+
+pub fn read(case: &Case, answer_len: usize) -> Call {
+    let mut lent = LentWords::new(case, case.records_len, answer_len);
+    let list = lent.list.words();
+    let image = lent.image.words();
+    let records = lent.buffer.words();
+    let answer = lent.answer.words();
+    // SAFETY: each pointer is of a slice with the length beside it; no two slices overlap.
+    let returned = unsafe {
+        xp10_read(
+            list.as_ptr(),
+            list.len(),
+            image.as_mut_ptr(),
+            image.len(),
+            records.as_mut_ptr(),
+            records.len(),
+            answer.as_mut_ptr(),
+            answer.len(),
+        )
+    };
+    lent.call(returned)
+}
+
+pub fn normalise(case: &Case, answer_len: usize) -> Call {
+    let mut lent = LentWords::new(case, case.out_len, answer_len);
+    let list = lent.list.words();
+    let image = lent.image.words();
+    let out = lent.buffer.words();
+    let answer = lent.answer.words();
+    // SAFETY: as for `read`.
+    let returned = unsafe {
+        xp10_normalise(
+            list.as_ptr(),
+            list.len(),
+            image.as_ptr(),
+            image.len(),
+            out.as_mut_ptr(),
+            out.len(),
+            answer.as_mut_ptr(),
+            answer.len(),
+        )
+    };
+    lent.call(returned)
+}

@@ -1,0 +1,227 @@
+//! Checks of the rules: the paper's cases, and demand 3 on random lists.
+
+use crate::listings::bytes;
+use crate::lists::{self, Purpose};
+use crate::outcome::{self, prefilled};
+use crate::paper::{self, Expected, PaperCase};
+use crate::prng::Prng;
+use crate::rules::{self, Answer, IMAGE_WORDS, RECORD_WORDS};
+
+/// Each panics when it fails.
+pub const CHECKS: [(&str, fn()); 6] = [
+    ("cases of document 01", paper_cases),
+    ("listing", listings),
+    ("lent words", lent_words),
+    ("room", room),
+    ("demand 3", demand_3),
+    ("equal doings, equal forms", equal_doings),
+];
+
+const RANDOM_LISTS: u64 = 20_000;
+
+fn paper_cases() {
+    for case in &paper::CASES {
+        paper_case(case);
+    }
+}
+
+fn paper_case(case: &PaperCase) {
+    let mut image = vec![0; IMAGE_WORDS];
+    image[0x02] = case.timer;
+    let (form_answer, form) = normal_form(case.list, &image);
+    let (answer, _) = records(case.list, &mut image);
+    assert_eq!(form_answer.verdict, answer.verdict, "{}", case.name);
+    assert_eq!(form_answer.position, answer.position, "{}", case.name);
+    match case.expected {
+        Expected::Accepted { commands } => {
+            assert_eq!((answer.verdict, answer.commands), (0, commands), "{}", case.name)
+        }
+        Expected::Image { word, value } => {
+            assert_eq!((answer.verdict, image[word]), (0, value), "{}", case.name)
+        }
+        Expected::Refused { verdict, position } => {
+            assert_eq!((answer.verdict, answer.position), (verdict, position), "{}", case.name)
+        }
+        Expected::Form(expected) => assert_eq!(form, expected, "{}", case.name),
+    }
+}
+
+/// The reader's answer and records, with room for them.
+fn records(list: &[u32], image: &mut [u32]) -> (Answer, Vec<u32>) {
+    let mut buffer = vec![0; RECORD_WORDS * list.len()];
+    let answer = rules::read(list, image, &mut buffer);
+    buffer.truncate(answer.words as usize);
+    (answer, buffer)
+}
+
+/// The normaliser's answer and form, with room for it.
+fn normal_form(list: &[u32], image: &[u32]) -> (Answer, Vec<u32>) {
+    let mut buffer = vec![0; 2 * list.len() + 64];
+    let answer = rules::normalise(list, image, &mut buffer);
+    buffer.truncate(answer.words as usize);
+    (answer, buffer)
+}
+
+fn listings() {
+    assert_eq!(rules::listing(&bytes(&paper::LISTING_WORDS)), paper::LISTING_TEXT);
+    assert_eq!(rules::listing(&[]), "at id words head\naccepted commands 0 items 0\n");
+    assert_eq!(rules::listing(&[0; 16_385]), "refused 1 at 4096\n");
+    assert_eq!(rules::listing(&[0x06; 5]), "refused 12 at 1\n");
+    assert_eq!(rules::listing(&bytes(&[0x03000000])), "refused 4 at 0\n");
+}
+
+/// A refusal changes nothing; after acceptance the words behind those written are as before.
+fn lent_words() {
+    for number in 0..RANDOM_LISTS {
+        let case = lists::random_case(&mut Prng::new(11, number), Purpose::Run);
+        for outcome in [outcome::read(&case), outcome::normalise(&case)] {
+            let [verdict, position, commands, records, words] = outcome.answer;
+            let before = prefilled(outcome.buffer.len());
+            assert_eq!(outcome.buffer[words as usize..], before[words as usize..]);
+            if verdict == 0 {
+                assert_eq!(position as usize, case.list.len());
+                assert!(records <= commands && commands <= position);
+            } else {
+                assert_eq!([commands, records, words], [0; 3]);
+                assert_eq!(outcome.image, case.image.words());
+                assert!(position as usize <= case.list.len());
+            }
+        }
+    }
+}
+
+/// 11 is given exactly when the words to write don't fit.
+fn room() {
+    for number in 0..RANDOM_LISTS {
+        let case = lists::random_case(&mut Prng::new(12, number), Purpose::Run);
+        let image = case.image.words();
+        let (read, _) = records(&case.list, &mut image.clone());
+        let (normalised, form) = normal_form(&case.list, &image);
+        if read.verdict != 0 {
+            assert_eq!(read, normalised);
+            continue;
+        }
+        let length = case.list.len() as u32;
+        let too_small = Answer { verdict: 11, position: length, commands: 0, records: 0, words: 0 };
+        let needed = read.words as usize;
+        for (room, fits) in [(needed, true), (needed + 3, true), (needed.wrapping_sub(1), false)] {
+            if room == usize::MAX {
+                continue;
+            }
+            let answer = rules::read(&case.list, &mut image.clone(), &mut vec![0; room]);
+            assert_eq!(answer, if fits { read } else { too_small });
+        }
+        let mut exact = vec![0; form.len()];
+        assert_eq!(rules::normalise(&case.list, &image, &mut exact), normalised);
+        if let Some((_, less)) = exact.split_last_mut() {
+            assert_eq!(rules::normalise(&case.list, &image, less), too_small);
+        }
+    }
+}
+
+/// What a list does, by document 01: its work with the images met, and the last image.
+#[derive(PartialEq)]
+struct Doings {
+    work: Vec<(Vec<u32>, Vec<u32>)>,
+    last_image: Vec<u32>,
+}
+
+fn doings(list: &[u32], start: &[u32]) -> Doings {
+    let mut image = start.to_vec();
+    let mut work = Vec::new();
+    for command in rules::commands(list).expect("an accepted list") {
+        if command.is_work() {
+            work.push((command.words.to_vec(), image.clone()));
+        }
+        command.apply(&mut image);
+    }
+    Doings { work, last_image: image }
+}
+
+/// Random lists that are accepted, not too long for `doings`, with images.
+fn accepted_lists(seed: u64) -> impl Iterator<Item = (Prng, Vec<u32>, Vec<u32>)> {
+    (0..RANDOM_LISTS).filter_map(move |number| {
+        let mut rng = Prng::new(seed, number);
+        let case = lists::random_case(&mut rng, Purpose::Run);
+        let image = case.image.words();
+        let accepted = records(&case.list, &mut image.clone()).0.verdict == 0;
+        (accepted && case.list.len() <= 1000).then_some((rng, case.list, image))
+    })
+}
+
+fn demand_3() {
+    let mut lists = 0;
+    for (_, list, image) in accepted_lists(13) {
+        lists += 1;
+        let mut list_image = image.clone();
+        let (of_list, list_records) = records(&list, &mut list_image);
+        let (normalised, form) = normal_form(&list, &image);
+        assert_eq!(normalised.verdict, 0);
+        assert_eq!(normalised.commands, of_list.commands);
+        assert_eq!(normalised.records, of_list.records);
+
+        let mut form_image = image.clone();
+        let (of_form, form_records) = records(&form, &mut form_image);
+        assert_eq!((of_form.verdict, of_form.position as usize), (0, form.len()));
+        assert_eq!(form_image, list_image);
+        assert_eq!(without_positions(&form_records), without_positions(&list_records));
+        assert!(doings(&form, &image) == doings(&list, &image));
+        assert_eq!(normal_form(&form, &image).1, form);
+        assert!(form.len() <= list.len());
+    }
+    assert!(lists > RANDOM_LISTS / 4);
+}
+
+fn without_positions(records: &[u32]) -> Vec<[u32; 3]> {
+    records.chunks_exact(RECORD_WORDS).map(|r| [r[0], r[2], r[3]]).collect()
+}
+
+/// Two lists do the same exactly when their forms are equal.
+fn equal_doings() {
+    let mut equal = 0;
+    let mut different = 0;
+    for (mut rng, list, image) in accepted_lists(14) {
+        let other = lists::equivalent_list(&mut rng, &list);
+        let same = doings(&list, &image) == doings(&other, &image);
+        assert_eq!(same, normal_form(&list, &image).1 == normal_form(&other, &image).1);
+        if same {
+            equal += 1;
+        } else {
+            different += 1;
+        }
+    }
+    assert!(equal > 1000 && different > 100, "{equal} equal, {different} different");
+}
+
+#[cfg(test)]
+mod tests {
+    #[test]
+    fn paper_cases() {
+        super::paper_cases();
+    }
+
+    #[test]
+    fn listings() {
+        super::listings();
+    }
+
+    #[test]
+    fn lent_words() {
+        super::lent_words();
+    }
+
+    #[test]
+    fn room() {
+        super::room();
+    }
+
+    #[test]
+    fn demand_3() {
+        super::demand_3();
+    }
+
+    #[test]
+    fn equal_doings() {
+        super::equal_doings();
+    }
+}

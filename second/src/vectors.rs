@@ -1,0 +1,77 @@
+//! The file of cases with digests of what the rules give for them.
+//!
+//! For each case: list length, image seed, image length, record buffer length, output buffer
+//! length, digest, then the list.
+
+use crate::lists::{self, Case, Image, Purpose};
+use crate::outcome::{self, Outcome};
+use crate::prng::Prng;
+
+/// The fixed sample and enough random cases to make this many.
+const CASES: usize = 4500;
+
+fn stored_cases() -> Vec<Case> {
+    let mut cases = lists::fixed_sample();
+    for number in cases.len()..CASES {
+        cases.push(lists::random_case(&mut Prng::new(6, number as u64), Purpose::Store));
+    }
+    cases
+}
+
+pub fn words() -> Vec<u32> {
+    stored_cases().iter().flat_map(case_words).collect()
+}
+
+fn case_words(case: &Case) -> Vec<u32> {
+    let Image::Seeded { seed, len } = case.image else {
+        panic!("an image that can't be stored");
+    };
+    let digest = digest(&outcome::read(case), &outcome::normalise(case));
+    let front = [case.list.len(), seed as usize, len, case.records_len, case.out_len];
+    let mut words: Vec<u32> = front.iter().map(|&number| number as u32).collect();
+    words.push(digest);
+    words.extend_from_slice(&case.list);
+    words
+}
+
+/// Over the reader's answer, image and records, then the normaliser's answer and output buffer.
+fn digest(reader: &Outcome, normaliser: &Outcome) -> u32 {
+    let sequence =
+        [&reader.answer[..], &reader.image, &reader.buffer, &normaliser.answer, &normaliser.buffer];
+    let add = |d: u32, w: &u32| d.wrapping_mul(16_777_619).wrapping_add(*w);
+    sequence.into_iter().flatten().fold(0x811C_9DC5, add)
+}
+
+#[cfg(test)]
+mod tests {
+    use super::*;
+
+    #[test]
+    fn file_is_small() {
+        assert!(4 * words().len() < 400_000);
+    }
+
+    #[test]
+    fn a_good_part_is_random() {
+        assert!(lists::fixed_sample().len() + 1000 < CASES);
+    }
+
+    #[test]
+    fn lengths_are_limited() {
+        for case in stored_cases() {
+            assert!(case.image.words().len() <= 300);
+            assert!(case.records_len <= 5000 && case.out_len <= 5000);
+        }
+    }
+
+    #[test]
+    fn every_verdict_is_there() {
+        let mut reader = [0; 12];
+        let mut normaliser = [0; 12];
+        for case in stored_cases() {
+            reader[outcome::read(&case).answer[0] as usize] += 1;
+            normaliser[outcome::normalise(&case).answer[0] as usize] += 1;
+        }
+        assert!(reader.iter().chain(&normaliser).all(|&count| count >= 2));
+    }
+}
