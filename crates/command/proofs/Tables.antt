@@ -22,12 +22,11 @@ values-from zero i f k h = absurd (not-suc-le-zero h)
 values-from (suc n) i f zero h = ap f (sym (add-zero i))
 values-from (suc n) i f (suc k) h = values-from n (suc i) f k (le-of-suc-le-suc h) ∙ ap f (suc-add i k ∙ sym (add-suc i k))
 
-every : ℕ → ℕ → (ℕ → Bool) → Bool
+abbrev pub every : ℕ → ℕ → (ℕ → Bool) → Bool
 every zero i f = true
 every (suc n) i f = f i && every n (suc i) f
 
-every-from : (n i : ℕ) (f : ℕ → Bool) → every n i f ≡ true → (k : ℕ) → k < n → f (i + k) ≡ true
-unfolding every
+pub every-from : (n i : ℕ) (f : ℕ → Bool) → every n i f ≡ true → (k : ℕ) → k < n → f (i + k) ≡ true
 every-from zero i f t k h = absurd (not-suc-le-zero h)
 every-from (suc n) i f t zero h = ap f (add-zero i) ∙ and-left (f i) (every n (suc i) f) t
 every-from (suc n) i f t (suc k) h =
@@ -81,7 +80,7 @@ fitsAt : ℕ → Bool
 fitsAt id = fits id (lineOf id) (rowOf id)
 
 all-fit : every 256 0 fitsAt ≡ true
-unfolding every fitsAt fits lineOf rowOf table maskTable rowAt isBase
+unfolding fitsAt fits lineOf rowOf table maskTable rowAt isBase
 all-fit = refl
 
 -- ---- what it says

@@ -9,13 +9,13 @@ use mathlib.Core.Option.{Option, none, some}
 use native.Mathlib.Decide.{decLe, decLt}
 use lib.Dec.{T, eqb, leb, ltb}
 use lib.ListN.{length, getD, set, take, drop, length-append, length-set}
-use lib.Seq.{sets, length-sets, ext-getD}
+use lib.Seq.{sets, length-sets, ext-getD, getD-set-other}
 use Rattle.rules.specs.Table.{Kind, setting, plain, keeps, begins, Row, rowOf, isSetting, size, settings}
 use Rattle.rules.specs.Command.{Command, words, wordsAll}
 use Rattle.rules.specs.Image.{leave, apply, final}
 use Rattle.rules.specs.Form.{read, equal, same, emit, differing}
 use Rattle.rules.proofs.Image.{sets-below, sets-above, sets-read, read-cong, read-at, read-sets, length-read, equal-true, equal-refl}
-use Rattle.rules.proofs.Rows.{Setting, setting-fits, settings-apart, inside, insideAny, inside-from, inside-to, inside-of, setting-inside, AllSettings, settings-all}
+use Rattle.rules.proofs.Rows.{Setting, setting-fits, settings-apart, inside, insideAny, inside-from, inside-to, inside-of, setting-inside, AllSettings, settings-all, keeps-outside, begins-outside}
 use Rattle.rules.proofs.Bools.{or-false}
 use Rattle.rules.proofs.Valid.{Valid, AllValid, setting-length, valid-setting}
 
@@ -183,3 +183,20 @@ differing-none [] im = refl
 differing-none (r ∷ rs) im =
     let e : same r im im ≡ true = equal-refl (read im (r .id) (size r)) in
     rw e (differing-none rs im)
+
+-- a work command leaves the words of every setting
+module _ (r : Row) (sr : Setting r) (im : List ℕ) where
+  set-outside : (i h : ℕ) → insideAny settings i ≡ false → read (set im i h) (r .id) (size r) ≡ read im (r .id) (size r)
+  set-outside i h o =
+      read-cong (set im i h) im (r .id) (size r) (λ k p q.
+      getD-set-other im i k h 0 (λ e. let z : _≡_ {A = Bool} true false = sym (setting-inside r sr k p q) ∙ ap (insideAny settings) e ∙ o in let y : _≡_ {A = ℕ} 0 1 = cc in omega arith))
+
+  by-kind : (c : Command) → Valid c → (t : Kind) → c .row .kind ≡ t → isSetting t ≡ false
+      → read (leave t (c .row .id) (c .header) (c .rest) im) (r .id) (size r) ≡ read im (r .id) (size r)
+  by-kind c v setting e f = let z : _≡_ {A = Bool} true false = f in let y : _≡_ {A = ℕ} 0 1 = cc in absurd (omega arith)
+  by-kind c v plain e f = refl
+  by-kind c v keeps e f = set-outside (c .row .id) (c .header) (keeps-outside (c .row) (v .found) e)
+  by-kind c v begins e f = set-outside 0x08 (c .header) (begins-outside (c .row) (v .found) e)
+
+  pub work-other : (c : Command) → Valid c → isSetting (c .row .kind) ≡ false → read (apply c im) (r .id) (size r) ≡ read im (r .id) (size r)
+  work-other c v f = by-kind c v (c .row .kind) refl f

@@ -24,11 +24,11 @@ use Rattle.rules.proofs.Parse.{InOrder, Accepted, parse-accepted, parse
 use Rattle.rules.proofs.Differing.{length-apply, final-append, Near, near-refl, near-setting, setting-other, flush, differing-none}
 
 -- the two cases of a command
-form-setting : (fi im : List ℕ) (c : Command) (cs : List Command) → isSetting (c .row .kind) ≡ true → formFrom fi im (c ∷ cs) ≡ formFrom fi (apply c im) cs
+pub form-setting : (fi im : List ℕ) (c : Command) (cs : List Command) → isSetting (c .row .kind) ≡ true → formFrom fi im (c ∷ cs) ≡ formFrom fi (apply c im) cs
 unfolding formFrom
 form-setting fi im c cs e = rw e
 
-form-work : (fi im : List ℕ) (c : Command) (cs : List Command) → isSetting (c .row .kind) ≡ false → Near fi im
+pub form-work : (fi im : List ℕ) (c : Command) (cs : List Command) → isSetting (c .row .kind) ≡ false → Near fi im
     → formFrom fi im (c ∷ cs) ≡ differing settings fi im ++ c ∷ formFrom (apply c im) (apply c im) cs
 unfolding formFrom
 form-work fi im c cs e n =
@@ -89,7 +89,7 @@ works-work im c cs e = rw e
 all-quiet : (fi im : List ℕ) → Quiet (differing settings fi im)
 all-quiet fi im = differing-quiet settings fi im settings-all
 
-form-nil : (fi im : List ℕ) → formFrom fi im [] ≡ differing settings fi im
+pub form-nil : (fi im : List ℕ) → formFrom fi im [] ≡ differing settings fi im
 unfolding formFrom
 form-nil fi im = refl
 
@@ -155,7 +155,7 @@ all-append : (a b : List Command) → AllValid a → AllValid b → AllValid (a 
 all-append [] b p q = q
 all-append (c ∷ a) b p q = (p .0, all-append a b (p .1) q)
 
-differs-valid : (r : Row) (fi im : List ℕ) → Setting r → Near fi im → same r fi im ≡ false → Valid (emit r im)
+pub differs-valid : (r : Row) (fi im : List ℕ) → Setting r → Near fi im → same r fi im ≡ false → Valid (emit r im)
 differs-valid r fi im s n e =
     elim (n .backed r s) [
       | inl p ↦

@@ -13,7 +13,7 @@ use Rattle.rules.specs.Table.{Kind, setting, plain, keeps, begins, Row, 
 use Rattle.rules.specs.Command.{payload}
 use Rattle.rules.proofs.Bools.{and-left, and-right, and-true, or-cases, or-left, or-right, implied}
 
-everyRow : (Row → Bool) → List Row → Bool
+abbrev pub everyRow : (Row → Bool) → List Row → Bool
 everyRow p [] = true
 everyRow p (r ∷ rs) = p r && everyRow p rs
 
@@ -21,8 +21,7 @@ pub found-step : (b : Bool) (s r : Row) (o : Option Row) → cond b (some s) o �
 found-step true s r o e = inl (refl, cc)
 found-step false s r o e = inr e
 
-found-passes : (p : Row → Bool) (rows : List Row) (i : ℕ) (r : Row) → everyRow p rows ≡ true → find i rows ≡ some r → p r ≡ true
-unfolding everyRow
+pub found-passes : (p : Row → Bool) (rows : List Row) (i : ℕ) (r : Row) → everyRow p rows ≡ true → find i rows ≡ some r → p r ≡ true
 found-passes p [] i r t e = cc
 found-passes p (s ∷ rs) i r t e =
     elim (found-step (eqb (s .id) i) s r (find i rs) e) [
@@ -35,7 +34,7 @@ byteId : Row → Bool
 byteId r = ltb (r .id) 256
 
 pub row-small : (i : ℕ) (r : Row) → rowOf i ≡ some r → r .id < 256
-unfolding byteId everyRow rowOf table
+unfolding byteId rowOf table
 row-small i r e = ltb-true _ _ (found-passes byteId table i r refl e)
 
 -- a row of the table that is a setting
@@ -48,7 +47,7 @@ settingOk : Row → Bool
 settingOk r = not (isSetting (r .kind)) || (leb (r .id + size r) 256 && (not (eqb (r .id) 0x40) && not (isBase (r .id))))
 
 ok : (r : Row) → Setting r → (leb (r .id + size r) 256 && (not (eqb (r .id) 0x40) && not (isBase (r .id)))) ≡ true
-unfolding settingOk everyRow rowOf table isBase
+unfolding settingOk rowOf table isBase
 ok r s = implied (isSetting (r .kind)) _ (found-passes settingOk table (r .id) r refl (s .found)) (ap isSetting (s .kind))
 
 pub setting-fits : (r : Row) → Setting r → r .id + size r ≤ 256
@@ -74,7 +73,7 @@ apartAll : Row → Bool
 apartAll r = everyRow (apartOk r) table
 
 apart-test : (r s : Row) → Setting r → Setting s → (eqb (r .id) (s .id) || apart r s) ≡ true
-unfolding apartOk apartAll apart everyRow rowOf table
+unfolding apartOk apartAll apart rowOf table
 apart-test r s hr hs =
     implied (isSetting (r .kind) && isSetting (s .kind)) _
     (found-passes (apartOk r) table (s .id) s (found-passes apartAll table (r .id) r refl (hr .found)) (hs .found))
@@ -162,7 +161,7 @@ onceOk : Row → Bool
 onceOk s = not (isSetting (s .kind)) || leb (sizeAt (s .id) settings) (size s)
 
 pub setting-once : (s : Row) → Setting s → sizeAt (s .id) settings ≤ size s
-unfolding onceOk everyRow sizeAt settings rowOf table
+unfolding onceOk sizeAt settings rowOf table
 setting-once s hs =
     leb-true _ _ (implied (isSetting (s .kind)) _ (found-passes onceOk table (s .id) s refl (hs .found)) (ap isSetting (hs .kind)))
 
@@ -175,3 +174,25 @@ rising (r ∷ s ∷ rs) = ltb (r .id) (s .id) && rising (s ∷ rs)
 pub settings-rising : rising settings ≡ true
 unfolding settings table
 settings-rising = refl
+
+-- no work command's header goes to a setting's word
+outsideOk : Kind → ℕ → Bool
+outsideOk setting id = true
+outsideOk plain id = true
+outsideOk keeps id = not (insideAny settings id)
+outsideOk begins id = not (insideAny settings 0x08)
+
+rowOutside : Row → Bool
+rowOutside r = outsideOk (r .kind) (r .id)
+
+outside : (r : Row) → rowOf (r .id) ≡ some r → outsideOk (r .kind) (r .id) ≡ true
+unfolding outsideOk rowOutside rowOf table settings inside insideAny
+outside r e = found-passes rowOutside table (r .id) r refl e
+
+pub keeps-outside : (r : Row) → rowOf (r .id) ≡ some r → r .kind ≡ keeps → insideAny settings (r .id) ≡ false
+unfolding outsideOk
+keeps-outside r e k = not-true (insideAny settings (r .id)) (ap (λ (t : Kind). outsideOk t (r .id)) (sym k) ∙ outside r e)
+
+pub begins-outside : (r : Row) → rowOf (r .id) ≡ some r → r .kind ≡ begins → insideAny settings 0x08 ≡ false
+unfolding outsideOk
+begins-outside r e k = not-true (insideAny settings 0x08) (ap (λ (t : Kind). outsideOk t (r .id)) (sym k) ∙ outside r e)

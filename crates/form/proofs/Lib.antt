@@ -1,0 +1,4 @@
+pub mod Slots
+pub mod Settings
+pub mod Forming
+pub mod Normalising
