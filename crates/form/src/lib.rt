@@ -34,7 +34,8 @@ pub struct Draft {
 
 // ---- buffers
 
-fn put(out: &mut [u32], n: usize, w: u32)
+// A word past the end is not written.
+pub fn put(out: &mut [u32], n: usize, w: u32)
     ensures { λ _. ⌜ now (out .exit) ≡ set (now (out .entry)) n w ⌝ }
 {
     if n < out.len() {

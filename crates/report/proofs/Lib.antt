@@ -1,0 +1,7 @@
+pub mod Parts
+pub mod Fours
+pub mod Sizes
+pub mod Words
+pub mod Printed
+pub mod Examples
+pub mod Reader

@@ -1,0 +1,68 @@
+-- The listing, from what the parts of the program give.
+use Prim.Native.Nat.{ℕ, _+_, _/_, _%_, _^_, _≤_, _<_}
+use native.Mathlib.Omega.{arith}
+use mathlib.Core.Path.{_≡_, ap, ap₂}
+use mathlib.Core.List.{List, _++_}
+use borrow.Author.Tests.{lt-ltb, le-ltb, eq-eqb, ne-eqb}
+use lib.ListN.{length, length-append}
+use lib.Seq.{sets}
+use Rattle.rules.specs.declared.Answer.{Answer}
+use Rattle.rules.specs.Answer.{Outcome, reading}
+use Rattle.report.specs.Text.{ascii, line, twoNumbers}
+use Rattle.report.specs.Listing.{fours, wordsOf, readBytes, wordsRead, listed, textOf, Printed, printed}
+use Rattle.report.specs.Puts.{Puts, Bounded, Prints}
+use Rattle.report.proofs.Sizes.{printed-length}
+
+module _ (a : Answer) (ws : List ℕ) where
+  pub listed-refused : (a .verdict ≡ 0 → ⊥) → listed a ws ≡ twoNumbers (ascii "refused ") (a .verdict) (ascii " at ") (a .position)
+  unfolding listed
+  listed-refused h = rw (ne-eqb (a .verdict) 0 h)
+
+  pub listed-accepted : a .verdict ≡ 0
+      → listed a ws ≡ ascii "at id words head\n"
+      ++ (fours line ws ++ twoNumbers (ascii "accepted commands ") (a .commands) (ascii " items ") (a .records))
+  unfolding listed
+  listed-accepted h = rw (eq-eqb (a .verdict) 0 h)
+
+  pub listed-bound : a .verdict ≡ 0 → Bounded 0 (listed a ws)
+      → 17 + (length (fours line ws) + length (twoNumbers (ascii "accepted commands ") (a .commands) (ascii " items ") (a .records))) < 2 ^ 64
+  listed-bound e b =
+      omega (
+        arith,
+        b .bound,
+        ap length (listed-accepted e),
+        length-append (fours line ws) (twoNumbers (ascii "accepted commands ") (a .commands) (ascii " items ") (a .records)),
+      )
+
+pub listed-is : {o p : Outcome} {t u : List ℕ} {n : ℕ} → o ≡ p → Puts (textOf o) t 0 u n → Prints p (o .image) (o .buffer) t u n
+listed-is e h = record { image-is = ap (λ (x : Outcome). x .image) e; records-is = ap (λ (x : Outcome). x .buffer) e; puts = rw e at h }
+
+module _ (input words image records text : List ℕ) where
+  refused-is : {part u : List ℕ} {n : ℕ} → Puts part text 0 u n
+      → _≡_ {A = Printed} (record { size = n; words = words; image = image; records = records; text = u })
+      (record { size = length part; words = words; image = image; records = records; text = sets text 0 part })
+  refused-is p =
+      ap₂ {C = Printed} (λ k t. record { size = k; words = words; image = image; records = records; text = t }) (omega (arith, p .next-is)) (p .text-is)
+
+  pub printed-over : {u : List ℕ} {n : ℕ} → 16384 < length input → Puts (twoNumbers (ascii "refused ") 1 (ascii " at ") 4096) text 0 u n
+      → record { size = n; words = words; image = image; records = records; text = u } ≡ printed input words image records text
+  unfolding printed readBytes wordsRead listed
+  printed-over h p = rw (lt-ltb 16384 (length input) h) (refused-is p)
+
+  pub printed-uneven : {u : List ℕ} {n : ℕ} → length input ≤ 16384 → (length input % 4 ≡ 0 → ⊥)
+      → Puts (twoNumbers (ascii "refused ") 12 (ascii " at ") (length input / 4)) text 0 u n
+      → record { size = n; words = words; image = image; records = records; text = u } ≡ printed input words image records text
+  unfolding printed readBytes wordsRead listed
+  printed-uneven h g p = rw (le-ltb 16384 (length input) h, ne-eqb (length input % 4) 0 g) (refused-is p)
+
+  pub printed-whole : {im rs u : List ℕ} {n : ℕ} → length input ≤ 16384 → length input % 4 ≡ 0
+      → Prints (reading (wordsOf input) image records) im rs text u n
+      → record { size = n; words = sets words 0 (wordsOf input); image = im; records = rs; text = u } ≡ printed input words image records text
+  unfolding printed readBytes wordsRead
+  printed-whole {n = n} h g l =
+      let s : n ≡ length (textOf (reading (wordsOf input) image records)) = omega (arith, l .puts .next-is) in
+      rw (le-ltb 16384 (length input) h, eq-eqb (length input % 4) 0 g, s, l .image-is, l .records-is, l .puts .text-is)
+
+  -- a listing is short
+  pub and-short : {x : Printed} → x ≡ printed input words image records text → (x ≡ printed input words image records text) × (x .size ≤ 82003)
+  and-short e = (e, rw e (printed-length input words image records text))

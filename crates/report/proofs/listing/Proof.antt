@@ -1,0 +1,31 @@
+use lib.Seq.{length-sets}
+use Rattle.report.specs.Listing.{wordsOf}
+use Prim.Native.Nat.{_/_, _≤_}
+use native.Mathlib.Omega.{arith}
+use mathlib.Core.Path.{ap, _∙_}
+use lib.ListN.{length, take}
+use Rattle.report.proofs.Words.{words-front}
+use Rattle.report.proofs.Printed.{printed-over, printed-uneven, printed-whole, and-short}
+use borrow.Author.Needs.{needs}
+use Rattle.report.proofs.listing.Statement.{statement}
+use Rattle.report.proofs.listing.Tie as tie
+
+returns : tie.Need-returns
+returns c = and-short _ _ _ _ _ (printed-over _ _ _ _ _ (c .before .before .before .before .if1 .taken) (c .before .before .put-refusal .ensures))
+
+returns-2 : tie.Need-returns-2
+returns-2 c = and-short _ _ _ _ _ (printed-uneven _ _ _ _ _ (c .before .before .before .before .before .if1 .left) (c .before .before .before .before .if2 .taken) (c .before .before .put-refusal2 .ensures))
+
+returns-3 : tie.Need-returns-3
+returns-3 c =
+    let a = c .before .before .before .before .before .before .before .before .before .before .before .before .before .before .args in
+    let loaded = c .before .before .before .before .before .before .before .before .load .ensures in
+    let room : length (a .input .now) / 4 ≤ length (a .words .now) = omega (arith, ap length loaded, length-sets (a .words .now) 0 (wordsOf (a .input .now))) in
+    let front = ap (take (length (a .input .now) / 4)) loaded ∙ words-front (a .input .now) (a .words .now) room in
+    rw loaded (and-short _ _ _ _ _ (printed-whole _ _ _ _ _ (c .before .before .before .before .before .before .before .before .before .before .before .if1 .left) (c .before .before .before .before .before .before .before .before .before .before .if2 .left) (rw front at (c .before .before .put-list .ensures))))
+
+pub listing-spec : {M : Type 1} → statement M
+listing-spec =
+    tie.close
+    (tie.spec (λ c κs. search needs) (λ c. search needs) returns (λ c κs. search needs) (λ c. search needs) returns-2
+    (λ c κs. search needs) (λ c κs. search needs) (λ c. search needs) returns-3)

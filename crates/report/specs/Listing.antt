@@ -1,0 +1,74 @@
+-- The listing of some bytes (document 01, "The listing").
+use Prim.Native.Nat.{ℕ, _+_, _*_, _/_, _%_}
+use mathlib.Core.Bool.{cond}
+use mathlib.Core.List.{List, [], _∷_, _++_}
+use lib.Dec.{eqb, ltb}
+use lib.ListN.{length}
+use lib.Seq.{sets}
+use Rattle.rules.specs.declared.Answer.{Answer}
+use Rattle.rules.specs.Values.{refusal}
+use Rattle.rules.specs.Answer.{Outcome, refuse, reading, written}
+use Rattle.report.specs.Text.{ascii, line, twoNumbers}
+
+-- what is made of each four of some numbers; fewer at the end are left out
+abbrev pub fours : (ℕ → ℕ → ℕ → ℕ → List ℕ) → List ℕ → List ℕ
+fours f [] = []
+fours f (a ∷ []) = []
+fours f (a ∷ b ∷ []) = []
+fours f (a ∷ b ∷ c ∷ []) = []
+fours f (a ∷ b ∷ c ∷ d ∷ rest) = f a b c d ++ fours f rest
+
+-- "The program reads standard input as little-endian words".
+abbrev pub littleEndian : ℕ → ℕ → ℕ → ℕ → ℕ
+littleEndian a b c d = a + b * 0x100 + c * 0x10000 + d * 0x1000000
+
+unfoldable pub wordsOf : List ℕ → List ℕ
+wordsOf input = fours (λ a b c d. littleEndian a b c d ∷ []) input
+
+-- "Over 16,384 bytes is refusal 1, ahead of 12; 12 comes before any command is read." 12 is "bytes not a multiple of
+-- four".
+abbrev bySize : {A : Type 0} → List ℕ → A → A → A → A
+bySize input over uneven whole = cond (ltb 16384 (length input)) over (cond (eqb (length input % 4) 0) whole uneven)
+
+-- the reader's outcome on the words of some bytes, 1 at 4096, or 12 at the "whole words read"
+unfoldable pub readBytes : List ℕ → List ℕ → List ℕ → Outcome
+readBytes input image records =
+    bySize input (refuse (refusal 1 4096) image records) (refuse (refusal 12 (length input / 4)) image records)
+    (reading (wordsOf input) image records)
+
+-- the words that the reader gets: none where the bytes are refused
+unfoldable pub wordsRead : List ℕ → List ℕ
+wordsRead input = bySize input [] [] (wordsOf input)
+
+-- "It prints a header line, then a line per record .. The last line has the counts. A refusal prints only `refused N at
+-- P`." From an answer and the words of the records.
+unfoldable pub listed : Answer → List ℕ → List ℕ
+listed a ws =
+    cond (eqb (a .verdict) 0)
+    (ascii "at id words head\n"
+    ++ (fours line ws ++ twoNumbers (ascii "accepted commands ") (a .commands) (ascii " items ") (a .records)))
+    (twoNumbers (ascii "refused ") (a .verdict) (ascii " at ") (a .position))
+
+-- the whole text of a listing
+abbrev pub textOf : Outcome → List ℕ
+textOf o = listed (o .answer) (written o)
+
+-- the listing's length, and the lent buffers after a call. The listing stands in front in the text's buffer; what does not
+-- fit is left out.
+pub record Printed : Type 0 where
+  pub size : ℕ
+  pub words : List ℕ
+  pub image : List ℕ
+  pub records : List ℕ
+  pub text : List ℕ
+
+unfoldable pub printed : List ℕ → List ℕ → List ℕ → List ℕ → List ℕ → Printed
+printed input words image records text =
+    let o = readBytes input image records in
+    record {
+      size = length (textOf o);
+      words = sets words 0 (wordsRead input);
+      image = o .image;
+      records = o .buffer;
+      text = sets text 0 (textOf o);
+    }

@@ -1,0 +1,234 @@
+// The listing of a command list, as text in a lent buffer.
+use rules::Answer;
+ghost use mathlib.Core.Path.{_≡_};
+ghost use mathlib.Core.List.{[], _∷_};
+ghost use Prim.Native.Nat.{_+_, _<_, _≤_};
+ghost use lib.ListN.{length, take};
+ghost use lib.Seq.{sets};
+ghost use Rattle.rules.specs.Answer.{reading};
+ghost use Rattle.report.specs.Text.{ascii, digit, hex, decimal, line, twoNumbers};
+ghost use Rattle.report.specs.Listing.{fours, littleEndian, wordsOf, listed, printed};
+ghost use Rattle.report.specs.Puts.{Puts, Bounded, Prints, lineAt, wordAt};
+
+// ---- parts of the text: each goes from position `at` on, and answers the position behind it
+
+fn put(text: &mut [u8], at: usize, byte: u8) -> usize
+    requires { ⌜ Bounded at (byte ∷ []) ⌝ }
+    ensures { λ r. ⌜ Puts (byte ∷ []) (now (text .entry)) at (now (text .exit)) r ⌝ }
+{
+    if at < text.len() {
+        text[at] = byte;
+    }
+    at + 1
+}
+
+fn put_all(text: &mut [u8], at: usize, bytes: &[u8]) -> usize
+    requires { ⌜ Bounded at (now bytes) ⌝ }
+    ensures { λ r. ⌜ Puts (now (bytes .entry)) (now (text .entry)) at (now (text .exit)) r ⌝ }
+{
+    let mut i = 0;
+    while i < bytes.len() {
+        put(text, at + i, bytes[i]);
+        i += 1;
+    }
+    at + i
+}
+
+fn digit(d: usize) -> u8
+    requires { ⌜ d < 16 ⌝ }
+    ensures { λ r. ⌜ r ≡ digit d ⌝ }
+{
+    let d = d as u8;
+    if d < 10 { b'0' + d } else { b'a' - 10 + d }
+}
+
+fn put_decimal(text: &mut [u8], at: usize, n: usize) -> usize
+    requires { ⌜ Bounded at (decimal n) ⌝ }
+    ensures { λ r. ⌜ Puts (decimal n) (now (text .entry)) at (now (text .exit)) r ⌝ }
+{
+    if n < 10 {
+        return put(text, at, digit(n));
+    }
+    let last = put_decimal(text, at, n / 10);
+    put(text, last, digit(n % 10))
+}
+
+fn put_hex(text: &mut [u8], at: usize, digits: usize, n: usize) -> usize
+    requires { ⌜ Bounded at (hex digits n) ⌝ }
+    ensures { λ r. ⌜ Puts (hex digits n) (now (text .entry)) at (now (text .exit)) r ⌝ }
+{
+    if digits == 0 {
+        return at;
+    }
+    let last = put_hex(text, at, digits - 1, n / 16);
+    put(text, last, digit(n % 16))
+}
+
+// ---- lines
+
+fn wide(word: u32) -> usize
+    ensures { λ r. ⌜ r ≡ word ⌝ }
+{
+    word as usize
+}
+
+fn put_line(
+    text: &mut [u8],
+    at: usize,
+    id: usize,
+    position: usize,
+    words: usize,
+    header: usize,
+) -> usize
+    requires { ⌜ Bounded at (line id position words header) ⌝ }
+    ensures { λ r. ⌜ Puts (line id position words header) (now (text .entry)) at (now (text .exit)) r ⌝ }
+{
+    let at = put_decimal(text, at, position);
+    let at = put(text, at, b' ');
+    let at = put_hex(text, at, 2, id);
+    let at = put(text, at, b' ');
+    let at = put_decimal(text, at, words);
+    let at = put(text, at, b' ');
+    let at = put_hex(text, at, 6, header);
+    put(text, at, b'\n')
+}
+
+// The line of the record whose first word is at `i`.
+fn put_record(text: &mut [u8], at: usize, records: &[u32], i: usize) -> usize
+    requires { ⌜ (i + 3 < length (now records)) × Bounded at (lineAt (now records) i) ⌝ }
+    ensures { λ r. ⌜ Puts (lineAt (now (records .entry)) i) (now (text .entry)) at (now (text .exit)) r ⌝ }
+{
+    put_line(
+        text,
+        at,
+        wide(records[i]),
+        wide(records[i + 1]),
+        wide(records[i + 2]),
+        wide(records[i + 3]),
+    )
+}
+
+fn put_lines(text: &mut [u8], at: usize, records: &[u32]) -> usize
+    requires { ⌜ Bounded at (fours line (now records)) ⌝ }
+    ensures { λ r. ⌜ Puts (fours line (now (records .entry))) (now (text .entry)) at (now (text .exit)) r ⌝ }
+{
+    let mut at = at;
+    let mut i = 0;
+    while i < records.len() / 4 {
+        at = put_record(text, at, records, 4 * i);
+        i += 1;
+    }
+    at
+}
+
+fn put_two_numbers(
+    text: &mut [u8],
+    at: usize,
+    first: &[u8],
+    m: usize,
+    second: &[u8],
+    n: usize,
+) -> usize
+    requires { ⌜ Bounded at (twoNumbers (now first) m (now second) n) ⌝ }
+    ensures { λ r. ⌜ Puts (twoNumbers (now (first .entry)) m (now (second .entry)) n) (now (text .entry)) at (now (text .exit)) r ⌝ }
+{
+    let at = put_all(text, at, first);
+    let at = put_decimal(text, at, m);
+    let at = put_all(text, at, second);
+    let at = put_decimal(text, at, n);
+    put(text, at, b'\n')
+}
+
+fn put_refusal(text: &mut [u8], number: usize, position: usize) -> usize
+    ensures { λ r. ⌜ Puts (twoNumbers (ascii "refused ") number (ascii " at ") position) (now (text .entry)) 0 (now (text .exit)) r ⌝ }
+{
+    put_two_numbers(text, 0, b"refused ", number, b" at ", position)
+}
+
+// The listing of an answer, from the words of the records.
+fn put_answer(text: &mut [u8], a: Answer, records: &[u32]) -> usize
+    requires { ⌜ Bounded 0 (listed a (now records)) ⌝ }
+    ensures { λ r. ⌜ Puts (listed a (now (records .entry))) (now (text .entry)) 0 (now (text .exit)) r ⌝ }
+{
+    if a.verdict != 0 {
+        return put_refusal(text, wide(a.verdict), a.position);
+    }
+    let at = put_all(text, 0, b"at id words head\n");
+    let at = put_lines(text, at, records);
+    put_two_numbers(
+        text,
+        at,
+        b"accepted commands ",
+        a.commands,
+        b" items ",
+        a.records,
+    )
+}
+
+// ---- words
+
+fn join(a: u8, b: u8, c: u8, d: u8) -> u32
+    ensures { λ r. ⌜ r ≡ littleEndian a b c d ⌝ }
+{
+    (a as u32) + (b as u32) * 0x100 + (c as u32) * 0x10000 + (d as u32) * 0x1000000
+}
+
+// The word whose first byte is at `i`.
+fn word(input: &[u8], i: usize) -> u32
+    requires { ⌜ i + 3 < length (now input) ⌝ }
+    ensures { λ r. ⌜ r ≡ wordAt (now (input .entry)) i ⌝ }
+{
+    join(input[i], input[i + 1], input[i + 2], input[i + 3])
+}
+
+fn load(input: &[u8], words: &mut [u32; 4096])
+    requires { ⌜ length (now input) ≤ 16384 ⌝ }
+    ensures { λ _. ⌜ now (words .exit) ≡ sets (now (words .entry)) 0 (wordsOf (now (input .entry))) ⌝ }
+{
+    let mut i = 0;
+    while i < input.len() / 4 {
+        words[i] = word(input, 4 * i);
+        i += 1;
+    }
+}
+
+// ---- the listing
+
+// The listing of the list that is the first n words, from an image.
+fn put_list(
+    words: &[u32],
+    n: usize,
+    image: &mut [u32],
+    records: &mut [u32],
+    text: &mut [u8],
+) -> usize
+    requires { ⌜ n ≤ length (now words) ⌝ }
+    ensures { λ r. ⌜ Prints (reading (take n (now (words .entry))) (now (image .entry)) (now (records .entry))) (now (image .exit)) (now (records .exit)) (now (text .entry)) (now (text .exit)) r ⌝ }
+{
+    let a = list::read(&words[..n], image, records);
+    let k = a.words;
+    put_answer(text, a, &records[..k])
+}
+
+// The listing of the list in some bytes, from an image. It answers the listing's length, at most 82,003 bytes; what does
+// not fit in `text` is left out.
+pub fn listing(
+    input: &[u8],
+    words: &mut [u32; 4096],
+    image: &mut [u32; 256],
+    records: &mut [u32; 16384],
+    text: &mut [u8],
+) -> usize
+    ensures { λ r. ⌜ record { size = r; words = now (words .exit); image = now (image .exit); records = now (records .exit); text = now (text .exit) }
+        ≡ printed (now (input .entry)) (now (words .entry)) (now (image .entry)) (now (records .entry)) (now (text .entry)) ⌝ }
+    ensures { λ r. ⌜ r ≤ 82003 ⌝ }
+{
+    if 16384 < input.len() {
+        return put_refusal(text, 1, 4096);
+    }
+    if input.len() % 4 != 0 {
+        return put_refusal(text, 12, input.len() / 4);
+    }
+    load(input, words);
+    put_list(words, input.len() / 4, image, records, text)
+}

@@ -1,0 +1,35 @@
+/* Reads a list and writes its normal form, from C. */
+#include <inttypes.h>
+#include <stdio.h>
+
+#include "xp10.h"
+
+#define WORDS(a) (sizeof(a) / sizeof((a)[0]))
+
+static void print_answer(const char *name, const uint32_t *answer)
+{
+    printf("%s: verdict %" PRIu32 " at %" PRIu32 ", commands %" PRIu32 ", records %" PRIu32 ", words %" PRIu32 "\n", name,
+           answer[XP10_VERDICT], answer[XP10_POSITION], answer[XP10_COMMANDS], answer[XP10_RECORDS], answer[XP10_WORDS]);
+}
+
+int main(void)
+{
+    static const uint32_t list[] = {0x02000010, 0x00000300, 0x48000000, 0, 0, 0, 0x21000100, 0x10100007, 0, 0, 0};
+    uint32_t image[256] = {0};
+    static const uint32_t start[256] = {0};
+    uint32_t records[4 * WORDS(list)] = {0};
+    uint32_t out[WORDS(list)] = {0};
+    uint32_t answer[XP10_ANSWER_WORDS] = {0};
+
+    xp10_read(list, WORDS(list), image, WORDS(image), records, WORDS(records), answer, WORDS(answer));
+    print_answer("read", answer);
+    for (const uint32_t *r = records; r != records + answer[XP10_WORDS]; r += 4)
+        printf("%" PRIu32 " %02" PRIx32 " %" PRIu32 " %06" PRIx32 "\n", r[1], r[0], r[2], r[3]);
+    printf("image word 02 is %06" PRIx32 "\n", image[0x02]);
+
+    xp10_normalise(list, WORDS(list), start, WORDS(start), out, WORDS(out), answer, WORDS(answer));
+    print_answer("normalise", answer);
+    for (uint32_t i = 0; i < answer[XP10_WORDS]; i++)
+        printf("%08" PRIx32 "\n", out[i]);
+    return 0;
+}
