@@ -708,14 +708,22 @@ fn decode_group(masks: &[u32; 64], list: &[u32], at: usize, row: usize) -> Decod
         let f = fault(masks, row, id, g);
         return Decoded::Refused(f.number, at + (f.word as usize));
     }
-    let words = command_size(id, g.header);
-    if list.len() - at < words {
-        return Decoded::Refused(9, at);
+    if id == 0x40 {
+        let words = command_size(id, g.header);
+        if list.len() - at < words {
+            return Decoded::Refused(9, at);
+        }
+        return Decoded::Command(Command {
+            id,
+            row,
+            words,
+            setting: Settings::kind(id) == Settings::GROUP,
+        });
     }
     Decoded::Command(Command {
         id,
         row,
-        words,
+        words: 4,
         setting: Settings::kind(id) == Settings::GROUP,
     })
 }
