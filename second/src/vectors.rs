@@ -65,6 +65,14 @@ mod tests {
     }
 
     #[test]
+    fn every_undefined_bit_is_refused_for_itself() {
+        let cases = stored_cases();
+        let bits: Vec<&Case> = cases.iter().filter(|case| case.class == "every undefined bit").collect();
+        assert!(!bits.is_empty());
+        assert!(bits.iter().all(|case| outcome::read(case).answer[0] == 6));
+    }
+
+    #[test]
     fn every_verdict_is_there() {
         let mut reader = [0; 12];
         let mut normaliser = [0; 12];

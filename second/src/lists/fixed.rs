@@ -70,7 +70,8 @@ fn stored_whole() -> Vec<Case> {
     [equal_settings(), image_lengths(), buffer_lengths()].concat()
 }
 
-/// A sample of the sets that fits a small file.
+/// A sample of the sets that fits a small file. Sets that are stored whole get a zero image and
+/// room, so that no other refusal hides what a list is there for.
 pub fn fixed_sample() -> Vec<Case> {
     const LONGEST: usize = 48;
     let mut rng = Prng::new(2, 0);
@@ -79,7 +80,7 @@ pub fn fixed_sample() -> Vec<Case> {
         for list in set.lists {
             let short = list.len() <= LONGEST || set.class == "sizes";
             if short && rng.once_in(set.stored_one_in) {
-                cases.push(if rng.once_in(2) {
+                cases.push(if set.stored_one_in == 1 || rng.once_in(2) {
                     plain(set.class, list, Purpose::Store)
                 } else {
                     with_surroundings(&mut rng, set.class, list, Purpose::Store)
