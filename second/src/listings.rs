@@ -16,6 +16,21 @@ pub fn write(folder: &Path) -> io::Result<()> {
     Ok(())
 }
 
+/// Writes stdin and stdout of the test program `listings`: each input after its length in two
+/// bytes, low first. Two that are long and like others are left out.
+pub fn write_crate(folder: &Path) -> io::Result<()> {
+    let (mut stdin, mut stdout) = (Vec::new(), String::new());
+    for (name, input) in inputs() {
+        if name != "refused-1-much-more" && name != "one-word-less" {
+            stdin.extend((input.len() as u16).to_le_bytes());
+            stdin.extend(&input);
+            stdout += &rules::listing(&input);
+        }
+    }
+    fs::write(folder.join("stdin"), stdin)?;
+    fs::write(folder.join("stdout"), stdout)
+}
+
 /// 2 and 11 are never printed: the program has its own image and enough room.
 fn inputs() -> Vec<(&'static str, Vec<u8>)> {
     let most = 4 * MAX_LIST_WORDS;

@@ -24,6 +24,7 @@ usage: second self-test          check the rules against the paper's cases and d
        second case K [SEED]      print case K and what the rules give for it
        second vectors            write the file of cases and digests to standard output
        second listings FOLDER    write inputs and outputs of the listing program
+       second listings-crate FOLDER   write stdin and stdout of the crate `listings`
        second listing            print the listing of standard input
 ";
 
@@ -46,6 +47,7 @@ fn run(words: &[&str]) -> io::Result<ExitCode> {
         ["self-test"] => self_test(),
         ["vectors"] => io::stdout().write_all(&listings::bytes(&vectors::words()))?,
         ["listings", folder] => listings::write(Path::new(folder))?,
+        ["listings-crate", folder] => listings::write_crate(Path::new(folder))?,
         ["listing"] => listing()?,
         [command, number, seed @ ..] if seed.len() <= 1 => {
             let seed = seed.first().unwrap_or(&"1").parse();

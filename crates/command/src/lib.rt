@@ -310,70 +310,86 @@ const ROWS: [u8; 256] = [
 
 // The defined bits by row and word; a word that a row does not have has every bit.
 const MASKS: [u32; 64] = [
+    // 00 flush
     0x00FFFFFF,
     0xFFFFFFFF,
     0xFFFFFFFF,
-    0xFFFFFFFF, // 00 flush
+    0xFFFFFFFF,
+    // 01 reset
     0x00000714,
     0xFFFFFFFF,
     0xFFFFFFFF,
-    0xFFFFFFFF, // 01 reset
+    0xFFFFFFFF,
+    // 02 timer threshold
     0x00FFFFFF,
     0xFFFFFFFF,
     0xFFFFFFFF,
-    0xFFFFFFFF, // 02 timer threshold
+    0xFFFFFFFF,
+    // 05 trigger
     0x00FFFFFF,
     0xFFFFFFFF,
     0xFFFFFFFF,
-    0xFFFFFFFF, // 05 trigger
+    0xFFFFFFFF,
+    // 08 0C 10 14 BEGIN
     0x00FFFFFF,
     0x803FFFFF,
     0x0FFFFFFF,
-    0x00000000, // 08 0C 10 14 BEGIN
+    0x00000000,
+    // 20 22 24 surface control
     0x0000000F,
     0xFFFFFFFF,
     0xFFFFFFFF,
-    0xFFFFFFFF, // 20 22 24 surface control
+    0xFFFFFFFF,
+    // 21 23 25 surface base
     0x00FFFFFF,
     0xFFFFFFFF,
     0xFFFFFFFF,
-    0xFFFFFFFF, // 21 23 25 surface base
+    0xFFFFFFFF,
+    // 26 extended base
     0x008F8F8F,
     0xFFFFFFFF,
     0xFFFFFFFF,
-    0xFFFFFFFF, // 26 extended base
+    0xFFFFFFFF,
+    // 30 31 2D overflow
     0x00FFFFFF,
     0xFFFFFFFF,
     0xFFFFFFFF,
-    0xFFFFFFFF, // 30 31 2D overflow
+    0xFFFFFFFF,
+    // 40 LOAD_GP
     0x00F7FDFF,
     0xFFFFFFFF,
     0xFFFFFFFF,
-    0xFFFFFFFF, // 40 LOAD_GP
+    0xFFFFFFFF,
+    // 48 primitive
     0x00FFFFFF,
     0xFFFFFFFF,
     0xFFFFFFFF,
-    0xFFFFFFFF, // 48 primitive
+    0xFFFFFFFF,
+    // 84 window clip
     0x00FFFFFF,
     0x3FFF0FFF,
     0xFFFFFFFF,
-    0xFFFFFFFF, // 84 window clip
+    0xFFFFFFFF,
+    // 88 raster mode
     0x00E7FFFF,
     0x00FFFFFF,
     0x003FFFFF,
-    0x00FFFFFF, // 88 raster mode
+    0x00FFFFFF,
+    // 8C polygon offset
     0x00FFFFFF,
     0xFFFFFFFF,
     0xFFFFFFFF,
-    0xFFFFFFFF, // 8C polygon offset
+    0xFFFFFFFF,
+    // 90 depth constants
     0x00FFFFFF,
     0x00FFFFFF,
     0x0FFF0FFF,
-    0x0FFF0FFF, // 90 depth constants
+    0x0FFF0FFF,
+    // C4 LOD bias enables
     0x00000000,
     0xFFFFFFFF,
     0xFFFFFFFF,
-    0xFFFFFFFF, // C4 LOD bias enables
+    0xFFFFFFFF,
 ];
 
 pub fn row_table() -> [u8; 256]
