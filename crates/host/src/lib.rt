@@ -1,20 +1,21 @@
 // The functions that C and Rust call (xp10.h).
+use form::put;
 use rules::Answer;
 ghost use mathlib.Core.Path.{_≡_};
 ghost use lib.Seq.{sets};
-ghost use Rattle.rules.specs.Answer.{Outcome, reading, normalising};
-ghost use Rattle.host.specs.Reply.{Small, fiveNumbers, Reply, reply};
+ghost use Rattle.rules.specs.Answer.{reading, normalising};
+ghost use Rattle.host.specs.Call.{Small, answerWords, callResult};
 
 // The five numbers of an answer, as many as there is room for.
-fn tell(a: Answer, answer: &mut [u32])
+fn write_answer(a: Answer, answer: &mut [u32])
     requires { ⌜ Small a ⌝ }
-    ensures { λ _. ⌜ now (answer .exit) ≡ sets (now (answer .entry)) 0 (fiveNumbers a) ⌝ }
+    ensures { λ _. ⌜ now (answer .exit) ≡ sets (now (answer .entry)) 0 (answerWords a) ⌝ }
 {
-    form::put(answer, 0, a.verdict);
-    form::put(answer, 1, a.position as u32);
-    form::put(answer, 2, a.commands as u32);
-    form::put(answer, 3, a.records as u32);
-    form::put(answer, 4, a.words as u32);
+    put(answer, 0, a.verdict);
+    put(answer, 1, a.position as u32);
+    put(answer, 2, a.commands as u32);
+    put(answer, 3, a.records as u32);
+    put(answer, 4, a.words as u32);
 }
 
 // The reader.
@@ -25,10 +26,10 @@ pub extern "C" fn xp10_read(
     records: &mut [u32],
     answer: &mut [u32],
 ) -> u32
-    ensures { λ r. ⌜ record { verdict = r; image = now (image .exit); buffer = now (records .exit); answer = now (answer .exit) } ≡ reply (reading (now (list .entry)) (now (image .entry)) (now (records .entry))) (now (answer .entry)) ⌝ }
+    ensures { λ r. ⌜ record { verdict = r; image = now (image .exit); buffer = now (records .exit); answer = now (answer .exit) } ≡ callResult (reading (now (list .entry)) (now (image .entry)) (now (records .entry))) (now (answer .entry)) ⌝ }
 {
     let a = list::read(list, image, records);
-    tell(a, answer);
+    write_answer(a, answer);
     a.verdict
 }
 
@@ -40,9 +41,9 @@ pub extern "C" fn xp10_normalise(
     out: &mut [u32],
     answer: &mut [u32],
 ) -> u32
-    ensures { λ r. ⌜ record { verdict = r; image = now (image .entry); buffer = now (out .exit); answer = now (answer .exit) } ≡ reply (normalising (now (list .entry)) (now (image .entry)) (now (out .entry))) (now (answer .entry)) ⌝ }
+    ensures { λ r. ⌜ record { verdict = r; image = now (image .entry); buffer = now (out .exit); answer = now (answer .exit) } ≡ callResult (normalising (now (list .entry)) (now (image .entry)) (now (out .entry))) (now (answer .entry)) ⌝ }
 {
     let a = form::normalise(list, image, out);
-    tell(a, answer);
+    write_answer(a, answer);
     a.verdict
 }

@@ -1,5 +1,5 @@
-// Prints the listing of the command list on standard input. A read or a write that fails is told on standard error; a
-// failed read ends the input.
+// Prints the listing of the command list on standard input. A read or a write that fails is reported on standard error;
+// a failed read ends the input.
 use libc::STDIN_FILENO;
 use libc::STDOUT_FILENO;
 ghost use Prim.Native.Nat.{_≤_};

@@ -2,7 +2,6 @@
 // their listings go to standard output.
 use libc::STDIN_FILENO;
 use libc::STDOUT_FILENO;
-ghost use Prim.Native.Nat.{_<_};
 
 // What the program `listing` does with its standard input.
 fn list_one(input: &[u8]) {
@@ -14,17 +13,15 @@ fn list_one(input: &[u8]) {
     io::write_all(STDOUT_FILENO, &text[..size]);
 }
 
-fn wide(b: u8) -> usize
-    ensures { λ r. ⌜ r < 256 ⌝ }
-{
-    b as usize
+fn input_length(low: u8, high: u8) -> usize {
+    (low as usize) + (high as usize) * 256
 }
 
 fn list_all(inputs: &[u8]) {
     let mut at = 0;
     while 2 <= inputs.len() - at {
         let start = at + 2;
-        let n = wide(inputs[at]) + wide(inputs[at + 1]) * 256;
+        let n = input_length(inputs[at], inputs[at + 1]);
         if inputs.len() - start < n {
             return;
         }

@@ -1,5 +1,5 @@
 pub mod Parts
-pub mod Fours
+pub mod Chunks
 pub mod Sizes
 pub mod Words
 pub mod Printed

@@ -10,19 +10,16 @@ use lib.Dec.{ltb}
 use borrow.Author.Tests.{lt-ltb, le-ltb, ltb-true, ltb-false}
 use lib.ListN.{length, getD, take, length-append}
 use lib.Seq.{sets, take-suc, length-sets, length-take-le, take-all}
+use Rattle.rules.proofs.Image.{sets-append}
 use Rattle.report.specs.Text.{digit, hex, decimalOf, decimal, line, twoNumbers}
 use Rattle.report.specs.Puts.{Puts, Bounded}
-
-pub sets-append : (l p q : List ℕ) (i : ℕ) → sets l i (p ++ q) ≡ sets (sets l i p) (i + length p) q
-sets-append l [] q i = let e : i + 0 ≡ i = omega arith in rw e
-sets-append l (a ∷ p) q i = let e : i + suc (length p) ≡ suc i + length p = omega arith in rw e (sets-append _ p q (suc i))
 
 -- two parts are one
 pub puts-then : {p q t u v : List ℕ} {at m n : ℕ} → Puts p t at u m → Puts q u m v n → Puts (p ++ q) t at v n
 puts-then {p} {q} {t} {u} {v} {at} {m} {n} a b =
     record {
       next-is = omega (arith, a .next-is, b .next-is, length-append p q);
-      text-is = b .text-is ∙ ap₂ (λ (l : List ℕ) (k : ℕ). sets l k q) (a .text-is) (a .next-is) ∙ sym (sets-append t p q at);
+      text-is = b .text-is ∙ ap₂ (λ (l : List ℕ) (k : ℕ). sets l k q) (a .text-is) (a .next-is) ∙ sym (sets-append t at p q);
     }
 
 -- one byte more of some bytes
@@ -31,7 +28,7 @@ pub puts-more : (bs t : List ℕ) (at i : ℕ) {u v : List ℕ} {n : ℕ} → i 
 puts-more bs t at i {u} {v} h e a =
     let s : take (i + 1) bs ≡ take i bs ++ (getD bs i 0 ∷ []) = rw add-one (take-suc bs i 0 h) in
     let k : length (take i bs) ≡ i = length-take-le i bs (omega arith) in
-    rw (s, sets-append t (take i bs) (getD bs i 0 ∷ []) at, k) (a .text-is ∙ ap (λ (l : List ℕ). sets l (at + i) (getD bs i 0 ∷ [])) e)
+    rw (s, sets-append t at (take i bs) (getD bs i 0 ∷ []), k) (a .text-is ∙ ap (λ (l : List ℕ). sets l (at + i) (getD bs i 0 ∷ [])) e)
 
 pub puts-all : (bs t : List ℕ) (at i : ℕ) {u : List ℕ} → i ≤ length bs → length bs ≤ i → u ≡ sets t at (take i bs) → Puts bs t at u (at + i)
 puts-all bs t at i h l e =

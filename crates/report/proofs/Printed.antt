@@ -9,7 +9,7 @@ use lib.Seq.{sets}
 use Rattle.rules.specs.declared.Answer.{Answer}
 use Rattle.rules.specs.Answer.{Outcome, reading}
 use Rattle.report.specs.Text.{ascii, line, twoNumbers}
-use Rattle.report.specs.Listing.{fours, wordsOf, readBytes, wordsRead, listed, textOf, Printed, printed}
+use Rattle.report.specs.Listing.{chunks, wordsOf, readBytes, wordsRead, listed, textOf, Printed, printed}
 use Rattle.report.specs.Puts.{Puts, Bounded, Prints}
 use Rattle.report.proofs.Sizes.{printed-length}
 
@@ -20,18 +20,18 @@ module _ (a : Answer) (ws : List ℕ) where
 
   pub listed-accepted : a .verdict ≡ 0
       → listed a ws ≡ ascii "at id words head\n"
-      ++ (fours line ws ++ twoNumbers (ascii "accepted commands ") (a .commands) (ascii " items ") (a .records))
+      ++ (chunks line ws ++ twoNumbers (ascii "accepted commands ") (a .commands) (ascii " items ") (a .records))
   unfolding listed
   listed-accepted h = rw (eq-eqb (a .verdict) 0 h)
 
   pub listed-bound : a .verdict ≡ 0 → Bounded 0 (listed a ws)
-      → 17 + (length (fours line ws) + length (twoNumbers (ascii "accepted commands ") (a .commands) (ascii " items ") (a .records))) < 2 ^ 64
+      → 17 + (length (chunks line ws) + length (twoNumbers (ascii "accepted commands ") (a .commands) (ascii " items ") (a .records))) < 2 ^ 64
   listed-bound e b =
       omega (
         arith,
         b .bound,
         ap length (listed-accepted e),
-        length-append (fours line ws) (twoNumbers (ascii "accepted commands ") (a .commands) (ascii " items ") (a .records)),
+        length-append (chunks line ws) (twoNumbers (ascii "accepted commands ") (a .commands) (ascii " items ") (a .records)),
       )
 
 pub listed-is : {o p : Outcome} {t u : List ℕ} {n : ℕ} → o ≡ p → Puts (textOf o) t 0 u n → Prints p (o .image) (o .buffer) t u n

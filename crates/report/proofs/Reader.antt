@@ -17,14 +17,14 @@ use Rattle.rules.proofs.Numbers.{Proper, parse-refuses}
 use Rattle.rules.proofs.Verdict.{reads, written-accept}
 use Rattle.rules.proofs.Parse.{parse-accepted}
 use Rattle.report.specs.Text.{ascii, line, twoNumbers}
-use Rattle.report.specs.Listing.{fours, wordsOf, readBytes, textOf}
+use Rattle.report.specs.Listing.{chunks, wordsOf, readBytes, textOf}
 use Rattle.report.proofs.Printed.{listed-refused, listed-accepted}
 
 abbrev pub recordLines : List Record → List ℕ
 recordLines [] = []
 recordLines (r ∷ rs) = line (r .id) (r .position) (r .size) (r .header) ++ recordLines rs
 
-lines-are : (rs : List Record) → fours line (recordWords rs) ≡ recordLines rs
+lines-are : (rs : List Record) → chunks line (recordWords rs) ≡ recordLines rs
 lines-are [] = refl
 lines-are (r ∷ rs) = ap (λ (l : List ℕ). line (r .id) (r .position) (r .size) (r .header) ++ l) (lines-are rs)
 

@@ -10,20 +10,20 @@ use Rattle.rules.specs.Values.{refusal}
 use Rattle.rules.specs.Answer.{Outcome, refuse, reading, written}
 use Rattle.report.specs.Text.{ascii, line, twoNumbers}
 
--- what is made of each four of some numbers; fewer at the end are left out
-abbrev pub fours : (ℕ → ℕ → ℕ → ℕ → List ℕ) → List ℕ → List ℕ
-fours f [] = []
-fours f (a ∷ []) = []
-fours f (a ∷ b ∷ []) = []
-fours f (a ∷ b ∷ c ∷ []) = []
-fours f (a ∷ b ∷ c ∷ d ∷ rest) = f a b c d ++ fours f rest
+-- what is made of each chunk of four numbers, one behind the other; fewer at the end are left out
+abbrev pub chunks : (ℕ → ℕ → ℕ → ℕ → List ℕ) → List ℕ → List ℕ
+chunks f [] = []
+chunks f (a ∷ []) = []
+chunks f (a ∷ b ∷ []) = []
+chunks f (a ∷ b ∷ c ∷ []) = []
+chunks f (a ∷ b ∷ c ∷ d ∷ rest) = f a b c d ++ chunks f rest
 
 -- "The program reads standard input as little-endian words".
 abbrev pub littleEndian : ℕ → ℕ → ℕ → ℕ → ℕ
 littleEndian a b c d = a + b * 0x100 + c * 0x10000 + d * 0x1000000
 
 unfoldable pub wordsOf : List ℕ → List ℕ
-wordsOf input = fours (λ a b c d. littleEndian a b c d ∷ []) input
+wordsOf input = chunks (λ a b c d. littleEndian a b c d ∷ []) input
 
 -- "Over 16,384 bytes is refusal 1, ahead of 12; 12 comes before any command is read." 12 is "bytes not a multiple of
 -- four".
@@ -46,7 +46,7 @@ unfoldable pub listed : Answer → List ℕ → List ℕ
 listed a ws =
     cond (eqb (a .verdict) 0)
     (ascii "at id words head\n"
-    ++ (fours line ws ++ twoNumbers (ascii "accepted commands ") (a .commands) (ascii " items ") (a .records)))
+    ++ (chunks line ws ++ twoNumbers (ascii "accepted commands ") (a .commands) (ascii " items ") (a .records)))
     (twoNumbers (ascii "refused ") (a .verdict) (ascii " at ") (a .position))
 
 -- the whole text of a listing

@@ -6,7 +6,7 @@ use lib.ListN.{length, getD}
 use lib.Seq.{sets}
 use Rattle.rules.specs.Answer.{Outcome}
 use Rattle.report.specs.Text.{line}
-use Rattle.report.specs.Listing.{littleEndian, textOf}
+use Rattle.report.specs.Listing.{textOf}
 
 -- from position `at` on, `part` was put over a text, so that the next position is `next`. Past the text's end nothing is
 -- put.
@@ -21,10 +21,6 @@ pub record Bounded (at : ℕ) (part : List ℕ) : Type 0 where
 -- the line of the record whose first word is at i
 abbrev pub lineAt : List ℕ → ℕ → List ℕ
 lineAt ws i = line (getD ws i 0) (getD ws (i + 1) 0) (getD ws (i + 2) 0) (getD ws (i + 3) 0)
-
--- the word whose first byte is at i
-abbrev pub wordAt : List ℕ → ℕ → ℕ
-wordAt bs i = littleEndian (getD bs i 0) (getD bs (i + 1) 0) (getD bs (i + 2) 0) (getD bs (i + 3) 0)
 
 -- an outcome's image and buffer stand, and the text of its listing was put over a text
 pub record Prints (o : Outcome) (image records before after : List ℕ) (size : ℕ) : Type 0 where

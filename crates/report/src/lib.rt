@@ -7,8 +7,8 @@ ghost use lib.ListN.{length, take};
 ghost use lib.Seq.{sets};
 ghost use Rattle.rules.specs.Answer.{reading};
 ghost use Rattle.report.specs.Text.{ascii, digit, hex, decimal, line, twoNumbers};
-ghost use Rattle.report.specs.Listing.{fours, littleEndian, wordsOf, listed, printed};
-ghost use Rattle.report.specs.Puts.{Puts, Bounded, Prints, lineAt, wordAt};
+ghost use Rattle.report.specs.Listing.{chunks, littleEndian, wordsOf, listed, printed};
+ghost use Rattle.report.specs.Puts.{Puts, Bounded, Prints, lineAt};
 
 // ---- parts of the text: each goes from position `at` on, and answers the position behind it
 
@@ -109,8 +109,8 @@ fn put_record(text: &mut [u8], at: usize, records: &[u32], i: usize) -> usize
 }
 
 fn put_lines(text: &mut [u8], at: usize, records: &[u32]) -> usize
-    requires { ⌜ Bounded at (fours line (now records)) ⌝ }
-    ensures { λ r. ⌜ Puts (fours line (now (records .entry))) (now (text .entry)) at (now (text .exit)) r ⌝ }
+    requires { ⌜ Bounded at (chunks line (now records)) ⌝ }
+    ensures { λ r. ⌜ Puts (chunks line (now (records .entry))) (now (text .entry)) at (now (text .exit)) r ⌝ }
 {
     let mut at = at;
     let mut i = 0;
@@ -167,27 +167,24 @@ fn put_answer(text: &mut [u8], a: Answer, records: &[u32]) -> usize
 
 // ---- words
 
-fn join(a: u8, b: u8, c: u8, d: u8) -> u32
+fn little_endian(a: u8, b: u8, c: u8, d: u8) -> u32
     ensures { λ r. ⌜ r ≡ littleEndian a b c d ⌝ }
 {
     (a as u32) + (b as u32) * 0x100 + (c as u32) * 0x10000 + (d as u32) * 0x1000000
 }
 
-// The word whose first byte is at `i`.
-fn word(input: &[u8], i: usize) -> u32
-    requires { ⌜ i + 3 < length (now input) ⌝ }
-    ensures { λ r. ⌜ r ≡ wordAt (now (input .entry)) i ⌝ }
-{
-    join(input[i], input[i + 1], input[i + 2], input[i + 3])
-}
-
-fn load(input: &[u8], words: &mut [u32; 4096])
-    requires { ⌜ length (now input) ≤ 16384 ⌝ }
+// The words of some bytes go to the front of `words`, as many as there is room for. Bytes that make no whole word are left
+// out.
+pub fn load(input: &[u8], words: &mut [u32])
     ensures { λ _. ⌜ now (words .exit) ≡ sets (now (words .entry)) 0 (wordsOf (now (input .entry))) ⌝ }
 {
     let mut i = 0;
     while i < input.len() / 4 {
-        words[i] = word(input, 4 * i);
+        let at = 4 * i;
+        let word = little_endian(input[at], input[at + 1], input[at + 2], input[at + 3]);
+        if i < words.len() {
+            words[i] = word;
+        }
         i += 1;
     }
 }

@@ -1,10 +1,11 @@
-use Rattle.report.proofs.Words.{words-none, words-more, words-all}
 use Prim.Native.Nat.{_*_, _-_, _≤_}
 use native.Mathlib.Omega.{arith}
-use mathlib.Core.Path.{_≡_}
+use mathlib.Core.Path.{_≡_, refl, ap, sym, _∙_}
+use mathlib.Core.Logic.{⊎-elim}
 use lib.ListN.{length, take}
-use lib.Seq.{sets}
+use lib.Seq.{sets, set-out, length-sets}
 use Rattle.report.specs.Listing.{wordsOf}
+use Rattle.report.proofs.Words.{words-more, words-all}
 use Rattle.report.proofs.load.Statement.{statement}
 use Rattle.report.proofs.load.Tie as tie
 
@@ -15,10 +16,14 @@ abbrev μ-loop : tie.MeasureT-loop
 μ-loop input words₀ i₀ words i = length input - i
 
 loop-holds : tie.Need-loop-holds Inv-loop μ-loop
-loop-holds c = (omega arith, words-none (c .before .args .input .now) _)
+unfolding wordsOf
+loop-holds c = (omega arith, refl)
 
 loop-again : tie.Need-loop-again Inv-loop μ-loop
-loop-again c = (omega arith, rw (c .word .ensures) (words-more _ _ _ (omega arith) (c .before .before .loop .inv .1)))
+loop-again c = (omega arith, words-more _ _ _ (c .before .before .before .before .before .before .loop-test .taken) (c .before .before .before .before .before .before .before .loop .inv .1) (c .before .little-endian .ensures) (⊎-elim (λ w. w .1) (λ w. w .1 ∙ sym (set-out _ _ _ (w .0 .left))) (c .if1 .came)))
+
+same-length : tie.Need-same-length Inv-loop μ-loop
+same-length c = ap length (c .before .loop .inv .1) ∙ simp length-sets
 
 returns : tie.Need-returns Inv-loop μ-loop
 returns c = words-all _ _ _ (c .before .loop .inv .0) (c .loop-test .left) (c .before .loop .inv .1)
@@ -26,5 +31,6 @@ returns c = words-all _ _ _ (c .before .loop .inv .0) (c .loop-test .left) (c .b
 pub load-spec : {M : Type 1} → statement M
 load-spec =
     tie.close
-    (tie.spec Inv-loop μ-loop loop-holds (λ c. omega arith) (λ c κs. omega arith) (λ c. omega arith)
-    (λ c. omega arith) (λ c. omega arith) (λ c. omega arith) loop-again returns)
+    (tie.spec Inv-loop μ-loop loop-holds (λ c. omega arith) (λ c. omega arith) (λ c. omega arith) (λ c. omega arith)
+    (λ c. omega arith) (λ c. omega arith) (λ c. omega arith) (λ c. omega arith) (λ c κs. omega arith)
+    (λ c. omega arith) (λ c. omega arith) (λ c. omega arith) (λ c. omega arith) loop-again same-length returns)

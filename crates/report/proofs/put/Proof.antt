@@ -1,7 +1,6 @@
 use mathlib.Core.Path.{refl, ap, sym, _∙_}
-use lib.ListN.{length, length-set}
 use mathlib.Core.Logic.{⊎-elim}
-use lib.ListN.{length-set}
+use lib.ListN.{length, length-set}
 use lib.Seq.{set-out}
 use borrow.Author.Needs.{needs}
 use Rattle.report.proofs.put.Statement.{statement}

@@ -2,9 +2,6 @@ use borrow.Author.Needs.{needs}
 use Rattle.report.proofs.put_record.Statement.{statement}
 use Rattle.report.proofs.put_record.Tie as tie
 
-put-line-requires : tie.Need-put-line-requires
-put-line-requires c κs = rw (c .before .before .before .before .before .before .wide .ensures, c .before .before .before .before .wide2 .ensures, c .before .before .wide3 .ensures, c .wide4 .ensures) (c .before .before .before .before .before .before .before .before .before .before .before .pre .1)
-
 returns : tie.Need-returns
 returns c = rw (← c .before .before .before .before .before .before .before .before .before .wide .ensures, ← c .before .before .before .before .before .before .before .wide2 .ensures, ← c .before .before .before .before .before .wide3 .ensures, ← c .before .before .before .wide4 .ensures) (c .before .before .put-line .ensures)
 
@@ -14,4 +11,5 @@ put-record-spec =
     (tie.spec (λ c. search needs) (λ c. search needs) (λ c κs. search needs) (λ c. search needs) (λ c. search needs)
     (λ c. search needs) (λ c κs. search needs) (λ c. search needs) (λ c. search needs) (λ c. search needs)
     (λ c κs. search needs) (λ c. search needs) (λ c. search needs) (λ c. search needs) (λ c κs. search needs)
-    put-line-requires (λ c. search needs) returns)
+    (λ c κs. rw (c .before .before .before .before .before .before .wide .ensures, c .before .before .before .before .wide2 .ensures, c .before .before .wide3 .ensures, c .wide4 .ensures) (c .before .before .before .before .before .before .before .before .before .before .before .pre .1))
+    (λ c. search needs) returns)

@@ -5,10 +5,9 @@ use borrow.Author.Needs.{needs}
 use Rattle.report.proofs.put_refusal.Statement.{statement}
 use Rattle.report.proofs.put_refusal.Tie as tie
 
-put-two-numbers-requires : tie.Need-put-two-numbers-requires
-put-two-numbers-requires c κs = record { bound = omega (arith, two-length (ascii "refused ") (ascii " at ") (c .before .before .before .before .args .number) (c .before .before .before .before .args .position)) }
-
 pub put-refusal-spec : {M : Type 1} → statement M
 put-refusal-spec =
     tie.close
-    (tie.spec (λ c. search needs) (λ c. search needs) put-two-numbers-requires (λ c. search needs) (λ c. search needs))
+    (tie.spec (λ c. search needs) (λ c. search needs)
+    (λ c κs. record { bound = omega (arith, two-length (ascii "refused ") (ascii " at ") (c .before .before .before .before .args .number) (c .before .before .before .before .args .position)) })
+    (λ c. search needs) (λ c. search needs))

@@ -5,21 +5,6 @@ use borrow.Author.Needs.{needs}
 use Rattle.report.proofs.put_two_numbers.Statement.{statement}
 use Rattle.report.proofs.put_two_numbers.Tie as tie
 
-put-all-requires : tie.Need-put-all-requires
-put-all-requires c κs = omega (arith, two-bound _ _ _ _ (c .before .before .before .before .pre))
-
-put-decimal-requires : tie.Need-put-decimal-requires
-put-decimal-requires c κs = omega (arith, two-bound _ _ _ _ (c .before .before .before .before .before .before .before .before .pre))
-
-put-all-requires-2 : tie.Need-put-all-requires-2
-put-all-requires-2 c κs = omega (arith, two-bound _ _ _ _ (c .before .before .before .before .before .before .before .before .before .before .before .before .pre))
-
-put-decimal-requires-2 : tie.Need-put-decimal-requires-2
-put-decimal-requires-2 c κs = omega (arith, two-bound _ _ _ _ (c .before .before .before .before .before .before .before .before .before .before .before .before .before .before .before .before .pre))
-
-put-requires : tie.Need-put-requires
-put-requires c κs = omega (arith, two-bound _ _ _ _ (c .before .before .before .before .before .before .before .before .before .before .before .before .before .before .before .before .before .before .before .before .pre))
-
 returns : tie.Need-returns
 unfolding twoNumbers
 returns c = puts-then (c .before .before .before .before .before .before .before .before .before .before .before .before .before .before .before .before .before .before .put-all .ensures) (puts-then (c .before .before .before .before .before .before .before .before .before .before .before .before .before .before .put-decimal .ensures) (puts-then (c .before .before .before .before .before .before .before .before .before .before .put-all2 .ensures) (puts-then (c .before .before .before .before .before .before .put-decimal2 .ensures) (c .before .before .put .ensures))))
@@ -27,5 +12,9 @@ returns c = puts-then (c .before .before .before .before .before .before .before
 pub put-two-numbers-spec : {M : Type 1} → statement M
 put-two-numbers-spec =
     tie.close
-    (tie.spec put-all-requires put-decimal-requires put-all-requires-2 put-decimal-requires-2 put-requires
+    (tie.spec (λ c κs. omega (arith, two-bound _ _ _ _ (c .before .before .before .before .pre)))
+    (λ c κs. omega (arith, two-bound _ _ _ _ (c .before .before .before .before .before .before .before .before .pre)))
+    (λ c κs. omega (arith, two-bound _ _ _ _ (c .before .before .before .before .before .before .before .before .before .before .before .before .pre)))
+    (λ c κs. omega (arith, two-bound _ _ _ _ (c .before .before .before .before .before .before .before .before .before .before .before .before .before .before .before .before .pre)))
+    (λ c κs. omega (arith, two-bound _ _ _ _ (c .before .before .before .before .before .before .before .before .before .before .before .before .before .before .before .before .before .before .before .before .pre)))
     (λ c. search needs) returns)

@@ -6,20 +6,20 @@ use Rattle.rules.specs.declared.Answer.{Answer}
 use Rattle.rules.specs.Answer.{Outcome}
 
 -- "The answer has verdict, position, commands, records, and words written to the lent buffer."
-abbrev pub fiveNumbers : Answer → List ℕ
-fiveNumbers a = a .verdict ∷ a .position ∷ a .commands ∷ a .records ∷ a .words ∷ []
+abbrev pub answerWords : Answer → List ℕ
+answerWords a = a .verdict ∷ a .position ∷ a .commands ∷ a .records ∷ a .words ∷ []
 
 -- what a call returns, and the lent words after it
-pub record Reply : Type 0 where
+pub record CallResult : Type 0 where
   pub verdict : ℕ
   pub image : List ℕ
   pub buffer : List ℕ
   pub answer : List ℕ
 
 -- the verdict is returned, and the answer's words get the five numbers, as many as there are words
-abbrev pub reply : Outcome → List ℕ → Reply
-reply o answer =
-    record { verdict = o .answer .verdict; image = o .image; buffer = o .buffer; answer = sets answer 0 (fiveNumbers (o .answer)) }
+abbrev pub callResult : Outcome → List ℕ → CallResult
+callResult o answer =
+    record { verdict = o .answer .verdict; image = o .image; buffer = o .buffer; answer = sets answer 0 (answerWords (o .answer)) }
 
 -- every number of an answer is small
 pub record Small (a : Answer) : Type 0 where
