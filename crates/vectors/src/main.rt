@@ -189,28 +189,6 @@ fn all(
 
 // ---- the program
 
-fn word(a: u8, b: u8, c: u8, d: u8) -> u32 {
-    ((d as u32) * 256 + (c as u32)) * 65536 + (b as u32) * 256 + (a as u32)
-}
-
-// The file's words, and how many there are.
-fn load(bytes: &[u8], words: &mut [u32]) -> usize
-    ensures { λ r. ⌜ r ≤ length (now (words .exit)) ⌝ }
-{
-    let count = least(bytes.len() / 4, words.len());
-    let mut i = 0;
-    while i < count {
-        words[i] = word(
-            bytes[i * 4],
-            bytes[i * 4 + 1],
-            bytes[i * 4 + 2],
-            bytes[i * 4 + 3],
-        );
-        i += 1;
-    }
-    count
-}
-
 fn print_number(n: u32) {
     io::print_decimal(1, n as u64);
 }
@@ -239,7 +217,8 @@ fn main() {
     let mut bytes = [0u8; 524288];
     let n = io::read_full(0, &mut bytes);
     let mut words = [0u32; 131072];
-    let count = load(&bytes[..n], &mut words);
+    report::load(&bytes[..n], &mut words);
+    let count = n / 4;
     let mut image = [0u32; 300];
     let mut records = [0u32; 5000];
     let mut out = [0u32; 5000];
