@@ -2,6 +2,7 @@
 
 use crate::lists::{self, Case, Image};
 use crate::outcome;
+use crate::rules;
 
 const VERDICTS: usize = 12;
 
@@ -28,8 +29,8 @@ pub fn count(cases: usize, seed: u64) {
     let mut words = 0;
     for index in 0..cases {
         let case = lists::case(&fixed, index, seed);
-        tally.reader[outcome::read(&case).answer[0] as usize] += 1;
-        tally.normaliser[outcome::normalise(&case).answer[0] as usize] += 1;
+        tally.reader[outcome::read(rules::paper(), &case).answer[0] as usize] += 1;
+        tally.normaliser[outcome::normalise(rules::paper(), &case).answer[0] as usize] += 1;
         words += case.list.len();
     }
     tally.print();
@@ -41,9 +42,10 @@ pub fn show(index: usize, seed: u64) {
     let fixed = lists::fixed_cases();
     let case = lists::case(&fixed, index, seed);
     print_case(&case, usize::MAX);
-    for (name, outcome) in
-        [("reader", outcome::read(&case)), ("normaliser", outcome::normalise(&case))]
-    {
+    for (name, outcome) in [
+        ("reader", outcome::read(rules::paper(), &case)),
+        ("normaliser", outcome::normalise(rules::paper(), &case)),
+    ] {
         println!("{name}: {:?}", outcome.answer);
         let written = outcome.answer[4] as usize;
         println!("  written {}", hex(&outcome.buffer[..written], usize::MAX));
@@ -119,10 +121,10 @@ mod with_proved {
 
     fn compare_case(case: &Case, answer_len: usize, tally: &mut Tally) -> Vec<String> {
         let mut found = Vec::new();
-        let expected = outcome::read(case);
+        let expected = outcome::read(rules::paper(), case);
         tally.reader[expected.answer[0] as usize] += 1;
         differences("reader", case, &expected, &proved::read(case, answer_len), &mut found);
-        let expected = outcome::normalise(case);
+        let expected = outcome::normalise(rules::paper(), case);
         tally.normaliser[expected.answer[0] as usize] += 1;
         let call = proved::normalise(case, answer_len);
         differences("normaliser", case, &expected, &call, &mut found);

@@ -11,7 +11,7 @@ pub fn write(folder: &Path) -> io::Result<()> {
     fs::create_dir_all(folder)?;
     for (name, input) in inputs() {
         fs::write(folder.join(format!("{name}.in")), &input)?;
-        fs::write(folder.join(format!("{name}.out")), rules::listing(&input))?;
+        fs::write(folder.join(format!("{name}.out")), rules::paper().listing(&input))?;
     }
     Ok(())
 }
@@ -24,7 +24,7 @@ pub fn write_crate(folder: &Path) -> io::Result<()> {
         if name != "refused-1-much-more" && name != "one-word-less" {
             stdin.extend((input.len() as u16).to_le_bytes());
             stdin.extend(&input);
-            stdout += &rules::listing(&input);
+            stdout += &rules::paper().listing(&input);
         }
     }
     fs::write(folder.join("stdin"), stdin)?;
@@ -85,7 +85,7 @@ mod tests {
     #[test]
     fn refusals_are_named_for_their_numbers() {
         for (name, input) in inputs() {
-            let text = rules::listing(&input);
+            let text = rules::paper().listing(&input);
             match name.strip_prefix("refused-") {
                 Some(rest) => {
                     let number = rest.split('-').next().expect("a number");

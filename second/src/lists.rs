@@ -4,8 +4,9 @@ mod commands;
 mod fixed;
 mod random;
 
+use self::commands::table;
 use crate::prng::{self, Prng};
-use crate::rules::{self, IMAGE_WORDS, RECORD_WORDS, TABLE};
+use crate::rules::{self, IMAGE_WORDS, RECORD_WORDS};
 
 pub use fixed::{fixed_cases, fixed_sample};
 pub use random::{equivalent_list, random_case};
@@ -101,8 +102,8 @@ fn plain(class: &'static str, list: Vec<u32>, purpose: Purpose) -> Case {
 fn needed_words(list: &[u32], image: &Image) -> (usize, usize) {
     let mut words = image.words();
     let mut room = vec![0; RECORD_WORDS * list.len()];
-    let form = rules::normalise(list, &words, &mut room).words;
-    let records = rules::read(list, &mut words, &mut room).words;
+    let form = rules::paper().normalise(list, &words, &mut room).words;
+    let records = rules::paper().read(list, &mut words, &mut room).words;
     (records as usize, form as usize)
 }
 
@@ -149,10 +150,11 @@ fn any_seed(rng: &mut Prng) -> u32 {
 /// An image that no list could leave: bits outside the masks.
 fn unsettable_words(rng: &mut Prng) -> Vec<u32> {
     let mut image: Vec<u32> = (0..IMAGE_WORDS).map(|_| rng.word()).collect();
-    for row in &TABLE {
+    for row in table() {
         for (k, mask) in row.masks.iter().enumerate() {
-            let some = !mask & rng.word();
-            image[row.id as usize + k] = rng.pick(&[!mask, !0, 1 << 31, some]);
+            let outside = !mask.bits;
+            let some = outside & rng.word();
+            image[row.id as usize + k] = rng.pick(&[outside, !0, 1 << 31, some]);
         }
     }
     image
@@ -164,10 +166,10 @@ fn words_of_list(rng: &mut Prng, list: &[u32]) -> Vec<u32> {
     if rng.once_in(3) {
         image = unsettable_words(rng);
     }
-    if let Ok(commands) = rules::commands(list) {
+    if let Ok(commands) = rules::paper().commands(list) {
         let applied = rng.below(commands.len() + 1);
         for command in &commands[..applied] {
-            command.apply(&mut image);
+            rules::paper().apply(command, &mut image);
         }
     }
     if rng.once_in(3) {

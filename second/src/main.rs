@@ -10,6 +10,7 @@ mod prng;
 mod proved;
 mod rules;
 mod self_test;
+mod vary;
 mod vectors;
 
 use std::env;
@@ -96,7 +97,7 @@ fn self_test() {
 fn listing() -> io::Result<()> {
     let mut input = Vec::new();
     io::stdin().read_to_end(&mut input)?;
-    io::stdout().write_all(rules::listing(&input).as_bytes())
+    io::stdout().write_all(rules::paper().listing(&input).as_bytes())
 }
 
 fn usage() -> ExitCode {

@@ -49,7 +49,7 @@ fn paper_case(case: &PaperCase) {
 /// The reader's answer and records, with room for them.
 fn records(list: &[u32], image: &mut [u32]) -> (Answer, Vec<u32>) {
     let mut buffer = vec![0; RECORD_WORDS * list.len()];
-    let answer = rules::read(list, image, &mut buffer);
+    let answer = rules::paper().read(list, image, &mut buffer);
     buffer.truncate(answer.words as usize);
     (answer, buffer)
 }
@@ -57,24 +57,26 @@ fn records(list: &[u32], image: &mut [u32]) -> (Answer, Vec<u32>) {
 /// The normaliser's answer and form, with room for it.
 fn normal_form(list: &[u32], image: &[u32]) -> (Answer, Vec<u32>) {
     let mut buffer = vec![0; 2 * list.len() + 64];
-    let answer = rules::normalise(list, image, &mut buffer);
+    let answer = rules::paper().normalise(list, image, &mut buffer);
     buffer.truncate(answer.words as usize);
     (answer, buffer)
 }
 
 fn listings() {
-    assert_eq!(rules::listing(&bytes(&paper::LISTING_WORDS)), paper::LISTING_TEXT);
-    assert_eq!(rules::listing(&[]), "at id words head\naccepted commands 0 items 0\n");
-    assert_eq!(rules::listing(&[0; 16_385]), "refused 1 at 4096\n");
-    assert_eq!(rules::listing(&[0x06; 5]), "refused 12 at 1\n");
-    assert_eq!(rules::listing(&bytes(&[0x03000000])), "refused 4 at 0\n");
+    assert_eq!(rules::paper().listing(&bytes(&paper::LISTING_WORDS)), paper::LISTING_TEXT);
+    assert_eq!(rules::paper().listing(&[]), "at id words head\naccepted commands 0 items 0\n");
+    assert_eq!(rules::paper().listing(&[0; 16_385]), "refused 1 at 4096\n");
+    assert_eq!(rules::paper().listing(&[0x06; 5]), "refused 12 at 1\n");
+    assert_eq!(rules::paper().listing(&bytes(&[0x03000000])), "refused 4 at 0\n");
 }
 
 /// A refusal changes nothing; after acceptance the words behind those written are as before.
 fn lent_words() {
     for number in 0..RANDOM_LISTS {
         let case = lists::random_case(&mut Prng::new(11, number), Purpose::Run);
-        for outcome in [outcome::read(&case), outcome::normalise(&case)] {
+        for outcome in
+            [outcome::read(rules::paper(), &case), outcome::normalise(rules::paper(), &case)]
+        {
             let [verdict, position, commands, records, words] = outcome.answer;
             let before = prefilled(outcome.buffer.len());
             assert_eq!(outcome.buffer[words as usize..], before[words as usize..]);
@@ -108,13 +110,13 @@ fn room() {
             if room == usize::MAX {
                 continue;
             }
-            let answer = rules::read(&case.list, &mut image.clone(), &mut vec![0; room]);
+            let answer = rules::paper().read(&case.list, &mut image.clone(), &mut vec![0; room]);
             assert_eq!(answer, if fits { read } else { too_small });
         }
         let mut exact = vec![0; form.len()];
-        assert_eq!(rules::normalise(&case.list, &image, &mut exact), normalised);
+        assert_eq!(rules::paper().normalise(&case.list, &image, &mut exact), normalised);
         if let Some((_, less)) = exact.split_last_mut() {
-            assert_eq!(rules::normalise(&case.list, &image, less), too_small);
+            assert_eq!(rules::paper().normalise(&case.list, &image, less), too_small);
         }
     }
 }
@@ -129,11 +131,11 @@ struct Doings {
 fn doings(list: &[u32], start: &[u32]) -> Doings {
     let mut image = start.to_vec();
     let mut work = Vec::new();
-    for command in rules::commands(list).expect("an accepted list") {
+    for command in rules::paper().commands(list).expect("an accepted list") {
         if command.is_work() {
             work.push((command.words.to_vec(), image.clone()));
         }
-        command.apply(&mut image);
+        rules::paper().apply(&command, &mut image);
     }
     Doings { work, last_image: image }
 }

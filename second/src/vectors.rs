@@ -6,6 +6,7 @@
 use crate::lists::{self, Case, Image, Purpose};
 use crate::outcome::{self, Outcome};
 use crate::prng::Prng;
+use crate::rules;
 
 /// The fixed sample and enough random cases to make this many.
 const CASES: usize = 4500;
@@ -26,7 +27,8 @@ fn case_words(case: &Case) -> Vec<u32> {
     let Image::Seeded { seed, len } = case.image else {
         panic!("an image that can't be stored");
     };
-    let digest = digest(&outcome::read(case), &outcome::normalise(case));
+    let digest =
+        digest(&outcome::read(rules::paper(), case), &outcome::normalise(rules::paper(), case));
     let front = [case.list.len(), seed as usize, len, case.records_len, case.out_len];
     let mut words: Vec<u32> = front.iter().map(|&number| number as u32).collect();
     words.push(digest);
@@ -67,9 +69,10 @@ mod tests {
     #[test]
     fn every_undefined_bit_is_refused_for_itself() {
         let cases = stored_cases();
-        let bits: Vec<&Case> = cases.iter().filter(|case| case.class == "every undefined bit").collect();
+        let bits: Vec<&Case> =
+            cases.iter().filter(|case| case.class == "every undefined bit").collect();
         assert!(!bits.is_empty());
-        assert!(bits.iter().all(|case| outcome::read(case).answer[0] == 6));
+        assert!(bits.iter().all(|case| outcome::read(rules::paper(), case).answer[0] == 6));
     }
 
     #[test]
@@ -77,8 +80,8 @@ mod tests {
         let mut reader = [0; 12];
         let mut normaliser = [0; 12];
         for case in stored_cases() {
-            reader[outcome::read(&case).answer[0] as usize] += 1;
-            normaliser[outcome::normalise(&case).answer[0] as usize] += 1;
+            reader[outcome::read(rules::paper(), &case).answer[0] as usize] += 1;
+            normaliser[outcome::normalise(rules::paper(), &case).answer[0] as usize] += 1;
         }
         assert!(reader.iter().chain(&normaliser).all(|&count| count >= 2));
     }

@@ -1,7 +1,7 @@
 //! Single commands: valid ones, ones near a rule's boundary, and refused ones.
 
 use crate::prng::Prng;
-use crate::rules::{self, Kind, Row, TABLE};
+use crate::rules::{self, Kind, Row};
 
 pub const BEGINS: [u32; 4] = [0x08, 0x0C, 0x10, 0x14];
 pub const SURFACE_BASES: [u32; 3] = [0x21, 0x23, 0x25];
@@ -30,8 +30,12 @@ pub fn clip(bank: u32, maximum: u32, minimum: u32) -> Vec<u32> {
     vec![0x84000000, bank << 28, maximum << 28 | minimum << 12, 0]
 }
 
+pub fn table() -> &'static [Row] {
+    &rules::paper().table.0
+}
+
 pub fn rows(kind: Kind) -> impl Iterator<Item = &'static Row> {
-    TABLE.iter().filter(move |row| row.kind == kind)
+    table().iter().filter(move |row| row.kind == kind)
 }
 
 /// A command of the row with only zeros behind its id.
@@ -60,18 +64,18 @@ pub fn command_like_word(rng: &mut Prng) -> u32 {
 }
 
 pub fn any_row(rng: &mut Prng) -> &'static Row {
-    &TABLE[rng.below(TABLE.len())]
+    &table()[rng.below(table().len())]
 }
 
 /// Words of the row with no undefined bit.
 fn defined_words(rng: &mut Prng, row: &Row) -> Vec<u32> {
-    let mut words: Vec<u32> = row.masks.iter().map(|mask| any_word(rng) & mask).collect();
+    let mut words: Vec<u32> = row.masks.iter().map(|mask| any_word(rng) & mask.bits).collect();
     words[0] |= row.id << 24;
     words
 }
 
 pub fn valid(rng: &mut Prng, id: u32) -> Vec<u32> {
-    let row = rules::row_of(id).expect("a known id");
+    let row = rules::paper().row_of(id).expect("a known id");
     match id {
         0x40 => valid_load(rng),
         0x48 => zeros(row),
@@ -129,7 +133,7 @@ fn valid_raster(rng: &mut Prng, row: &Row) -> Vec<u32> {
 
 /// A command whose fields lie on both sides of its rules' boundaries; it may break several at once.
 pub fn near(rng: &mut Prng, id: u32) -> Vec<u32> {
-    let row = rules::row_of(id).expect("a known id");
+    let row = rules::paper().row_of(id).expect("a known id");
     match id {
         0x40 => near_load(rng),
         0x48 => near_primitive(rng, row),
@@ -227,7 +231,7 @@ pub fn refused(rng: &mut Prng) -> Refused {
 fn unknown_id_word(rng: &mut Prng) -> u32 {
     loop {
         let id = rng.below(256) as u32;
-        if rules::row_of(id).is_none() && !rules::only_through_pci(id) {
+        if !rules::paper().is_known(id) {
             return first_word(id, any_word(rng) & 0xFFFFFF);
         }
     }
@@ -245,7 +249,7 @@ fn with_undefined_bit(rng: &mut Prng) -> Vec<u32> {
         let row = any_row(rng);
         let k = rng.below(row.masks.len());
         let bit = 1 << rng.below(bits_of_word(k));
-        if row.masks[k] & bit == 0 {
+        if row.masks[k].bits & bit == 0 {
             let mut words = valid(rng, row.id);
             words[k] |= bit;
             return words;
@@ -333,7 +337,7 @@ fn base_and_follower(rng: &mut Prng) -> Vec<u32> {
     let mut words = valid(rng, base);
     loop {
         let id = any_row(rng).id;
-        if !rules::is_begin(id) {
+        if !BEGINS.contains(&id) {
             words.extend(valid(rng, id));
             return words;
         }

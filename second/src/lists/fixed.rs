@@ -1,13 +1,13 @@
 //! Sets of lists that are the same in every run: each rule's boundary, from both sides.
 
 use super::commands::{
-    bits_of_word, clip, first_word, load_word, rows, valid, zeros, BEGINS, GROUPS, LEGAL_CODES,
-    SURFACE_BASES,
+    bits_of_word, clip, first_word, load_word, rows, table, valid, zeros, BEGINS, GROUPS,
+    LEGAL_CODES, SURFACE_BASES,
 };
 use super::{plain, with_buffers, with_surroundings, Case, Image, Purpose};
 use crate::paper;
 use crate::prng::{self, Prng};
-use crate::rules::{self, Kind, Row, IMAGE_WORDS, MAX_LIST_WORDS, TABLE};
+use crate::rules::{self, Kind, Row, IMAGE_WORDS, MAX_LIST_WORDS};
 
 const FLUSH: u32 = 0x00000001;
 const TIMER: u32 = 0x02000000;
@@ -130,10 +130,10 @@ fn every_id() -> Vec<Vec<u32>> {
 /// Each bit below the id of each word, alone: those in the masks, or those outside.
 fn every_bit(defined: bool) -> Vec<Vec<u32>> {
     let mut lists = Vec::new();
-    for row in &TABLE {
+    for row in table() {
         for (k, mask) in row.masks.iter().enumerate() {
             let bits = (0..bits_of_word(k)).map(|number| 1 << number);
-            for bit in bits.filter(|bit| (mask & bit != 0) == defined) {
+            for bit in bits.filter(|bit| (mask.bits & bit != 0) == defined) {
                 let mut list = zeros(row);
                 list[k] |= bit;
                 lists.push(list);
@@ -166,12 +166,12 @@ fn every_load_bit() -> Vec<Vec<u32>> {
 
 fn all_defined_bits() -> Vec<Vec<u32>> {
     let mut lists = Vec::new();
-    for row in &TABLE {
+    for row in table() {
         let mut all = zeros(row);
         for k in 0..row.masks.len() {
             let mut one = zeros(row);
-            one[k] |= row.masks[k];
-            all[k] |= row.masks[k];
+            one[k] |= row.masks[k].bits;
+            all[k] |= row.masks[k].bits;
             lists.push(one);
         }
         lists.push(all);
@@ -424,7 +424,7 @@ fn full_setting(row: &Row) -> Vec<u32> {
     loop {
         let words = valid(&mut rng, row.id);
         let values = words.iter().skip(1).all(|&word| word != 0);
-        if values && (words[0] & 0xFFFFFF != 0 || row.masks[0] == 0) {
+        if values && (words[0] & 0xFFFFFF != 0 || row.masks[0].bits == 0) {
             return words;
         }
     }
@@ -436,7 +436,7 @@ fn plain_work(row: &Row) -> Vec<u32> {
     match row.id {
         0x40 => words = paper::GUIDE_PUT.to_vec(),
         0x48 => {}
-        _ => words[0] |= row.masks[0] & 0x00F7F4,
+        _ => words[0] |= row.masks[0].bits & 0x00F7F4,
     }
     words
 }
@@ -448,7 +448,7 @@ fn setting_around_work() -> Vec<Vec<u32>> {
         let (on, off) = (full_setting(setting), zeros(setting));
         for row in rows(Kind::Work) {
             let mut work = plain_work(row);
-            if rules::is_surface_base(row.id) {
+            if SURFACE_BASES.contains(&row.id) {
                 work.extend([0x10100007, 0, 0, 0]);
             }
             for parts in around(&on, &off, &work) {
@@ -617,12 +617,12 @@ fn seed_and_equal_setting(row: &Row) -> Option<(u32, Vec<u32>)> {
     let mut rng = Prng::new(5, row.id as u64);
     let first = row.id as usize;
     (0..TRIES).find_map(|_| {
-        let header = rng.word() & row.masks[0];
+        let header = rng.word() & row.masks[0].bits;
         let seed = prng::seed_with_word(first, header);
         let image = prng::seeded_words(seed, IMAGE_WORDS);
         let mut words = image[first..first + row.masks.len()].to_vec();
         words[0] |= row.id << 24;
-        (header != 0 && rules::commands(&words).is_ok()).then_some((seed, words))
+        (header != 0 && rules::paper().commands(&words).is_ok()).then_some((seed, words))
     })
 }
 
@@ -634,7 +634,7 @@ mod tests {
     #[test]
     fn stored_images_equal_settings() {
         for id in [0x02, 0x26, 0x30, 0x31, 0x84, 0x8C] {
-            let row = rules::row_of(id).expect("a known id");
+            let row = rules::paper().row_of(id).expect("a known id");
             assert!(seed_and_equal_setting(row).is_some(), "setting {id:02x}");
         }
     }

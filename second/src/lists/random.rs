@@ -3,7 +3,7 @@
 use super::commands::{self, any_word, command_like_word, first_word, Refused};
 use super::{with_buffers, with_surroundings, Case, Image, Purpose};
 use crate::prng::Prng;
-use crate::rules::{self, Kind, IMAGE_WORDS, MAX_LIST_WORDS};
+use crate::rules::{self, Flip, Kind, IMAGE_WORDS, MAX_LIST_WORDS};
 
 pub fn random_case(rng: &mut Prng, purpose: Purpose) -> Case {
     if purpose == Purpose::Run && rng.once_in(400) {
@@ -41,7 +41,7 @@ fn valid_list(rng: &mut Prng, words: usize) -> Vec<u32> {
     while list.len() < words {
         let id = commands::any_row(rng).id;
         push_valid(rng, &mut list, id);
-        if rules::is_surface_base(id) {
+        if commands::SURFACE_BASES.contains(&id) {
             if rng.once_in(3) {
                 break;
             }
@@ -110,8 +110,8 @@ fn scene_image(rng: &mut Prng, values: &[Vec<Vec<u32>>]) -> Vec<u32> {
     let mut image: Vec<u32> = (0..IMAGE_WORDS).map(|_| any_word(rng)).collect();
     for of_one in values {
         let chosen = &of_one[rng.below(of_one.len())];
-        let commands = rules::commands(chosen).expect("a valid setting");
-        commands[0].apply(&mut image);
+        let commands = rules::paper().commands(chosen).expect("a valid setting");
+        rules::paper().apply(&commands[0], &mut image);
     }
     image
 }
@@ -251,7 +251,7 @@ fn long_list(rng: &mut Prng) -> Vec<u32> {
 /// A list with the same work, whose settings come in another order, hidden ones and repeated ones
 /// among them. Now and then one setting is changed, so that it may do something else.
 pub fn equivalent_list(rng: &mut Prng, list: &[u32]) -> Vec<u32> {
-    let commands = rules::commands(list).expect("a valid list");
+    let commands = rules::paper().commands(list).expect("a valid list");
     let mut other = Vec::new();
     let mut pending: Vec<&[u32]> = Vec::new();
     let mut in_force: Vec<&[u32]> = Vec::new();
@@ -267,7 +267,7 @@ pub fn equivalent_list(rng: &mut Prng, list: &[u32]) -> Vec<u32> {
             replace_setting(&mut pending, command.words);
             replace_setting(&mut in_force, command.words);
         }
-        after_base = rules::is_surface_base(command.row.id);
+        after_base = command.row.flip == Flip::SurfaceBase;
     }
     push_rearranged(rng, &mut other, &mut pending);
     other

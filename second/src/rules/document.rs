@@ -1,0 +1,308 @@
+//! Document 01 as a value: each part under its sentence.
+
+use super::language::{Field, Mask, Quantity, Set, Test, Value};
+use super::shape::*;
+use crate::vary::parts;
+
+pub const MAX_LIST_WORDS: usize = 4096;
+pub const IMAGE_WORDS: usize = 256;
+pub const RECORD_WORDS: usize = 4;
+
+const ONE_FULL: &[u32] = &[0xFFFFFF];
+const FOUR_FULL: &[u32] = &[0xFFFFFF, 0xFFFFFFFF, 0xFFFFFFFF, 0xFFFFFFFF];
+const BEGIN: &[u32] = &[0xFFFFFF, 0x803FFFFF, 0x0FFFFFFF, 0x00000000];
+const LOAD: &[u32] = &[0xF7FDFF, 0xFFFFFFFF, 0xFFFFFFFF, 0xFFFFFFFF];
+const CLIP: &[u32] = &[0xFFFFFF, 0x3FFF0FFF, 0xFFFFFFFF, 0xFFFFFFFF];
+const RASTER: &[u32] = &[0xE7FFFF, 0x00FFFFFF, 0x003FFFFF, 0x00FFFFFF];
+const DEPTH: &[u32] = &[0xFFFFFF, 0x00FFFFFF, 0x0FFF0FFF, 0x0FFF0FFF];
+const LOD_BIAS: &[u32] = &[0x000000, 0xFFFFFFFF, 0xFFFFFFFF, 0xFFFFFFFF];
+
+const LEGAL_CODES: [u32; 4] = [0, 1, 2, 5];
+
+parts! {
+    /// Fields that the papers name, and the image word of every BEGIN. Several rules use some.
+    pub struct Terms {
+        pub id: Field,
+        pub header: Field,
+        pub load_converts: Field,
+        pub load_code: Field,
+        pub load_offset: Field,
+        pub load_length: Field,
+        pub bank: Field,
+        pub page_maximum: Field,
+        pub page_minimum: Field,
+        pub page_based: Field,
+        pub full_page: Field,
+        pub begin_word: usize,
+    }
+}
+
+impl Terms {
+    pub fn paper() -> Terms {
+        Terms {
+            // "its id in bits 31..24 and a 24-bit header below"
+            id: Field::bits(0, 31, 24),
+            header: Field::bits(0, 23, 0),
+            // "bit 23 converts IEEE floats, bits 22..20 are the load code, 18..10 the start offset,
+            // 8..0 the length"
+            load_converts: Field::bit(0, 23),
+            load_code: Field::bits(0, 22, 20),
+            load_offset: Field::bits(0, 18, 10),
+            load_length: Field::bits(0, 8, 0),
+            // "bits 29..28 of the second word are the bank", "In the third word, bits 31..28 are the
+            // stored page maximum and bits 15..12 the stored minimum"
+            bank: Field::bits(1, 29, 28),
+            page_maximum: Field::bits(2, 31, 28),
+            page_minimum: Field::bits(2, 15, 12),
+            // "header bit 22 (page-based rendering)", "bit 14 (always full page)"
+            page_based: Field::bit(0, 22),
+            full_page: Field::bit(0, 14),
+            // "Any BEGIN puts its header in word 08."
+            begin_word: 0x08,
+        }
+    }
+}
+
+impl Rules {
+    pub fn paper() -> Rules {
+        Rules::with(&Terms::paper())
+    }
+
+    pub fn with(terms: &Terms) -> Rules {
+        Rules {
+            id: terms.id,
+            tested_header: terms.header,
+            left_header: terms.header,
+            // "Ids 03 and 04 go only through PCI."
+            pci: Set { members: vec![0x03, 0x04], below: 256 },
+            table: Table(table(terms)),
+            before_commands: before_commands(),
+            each_command: each_command(),
+            after_commands: after_commands(),
+            // "after a surface base command (21, 23 or 25) the list ends, or the next command is a
+            // BEGIN"
+            base_may_end_list: true,
+            records: records(terms),
+            form: form(),
+            listing: listing(),
+        }
+    }
+}
+
+fn table(terms: &Terms) -> Vec<Row> {
+    vec![
+        work(0x00, ONE_FULL),
+        work(0x01, &[0x000714]),
+        setting(0x02, ONE_FULL),
+        work_leaving_header(0x05, ONE_FULL),
+        begin(0x08, terms),
+        begin(0x0C, terms),
+        begin(0x10, terms),
+        begin(0x14, terms),
+        work_leaving_header(0x20, &[0x00000F]),
+        surface_base(0x21),
+        work_leaving_header(0x22, &[0x00000F]),
+        surface_base(0x23),
+        work_leaving_header(0x24, &[0x00000F]),
+        surface_base(0x25),
+        setting(0x26, &[0x8F8F8F]),
+        setting(0x30, ONE_FULL),
+        setting(0x31, ONE_FULL),
+        load(0x40, terms),
+        Row { faults: primitive_faults(terms), ..work(0x48, FOUR_FULL) },
+        Row { faults: clip_faults(terms), ..setting(0x84, CLIP) },
+        Row { faults: raster_faults(terms), ..setting(0x88, RASTER) },
+        setting(0x8C, FOUR_FULL),
+        setting(0x90, DEPTH),
+        setting(0xC4, LOD_BIAS),
+    ]
+}
+
+/// "Commands 00, 01, 40 and 48 put nothing in the image."
+fn work(id: u32, masks: &[u32]) -> Row {
+    Row::new(id, masks)
+}
+
+/// "Commands 05 and 20 to 25 put their header in the word of their id."
+fn work_leaving_header(id: u32, masks: &[u32]) -> Row {
+    Row { leaves: Leaves::Header(id as usize), ..work(id, masks) }
+}
+
+fn surface_base(id: u32) -> Row {
+    Row { flip: Flip::SurfaceBase, ..work_leaving_header(id, ONE_FULL) }
+}
+
+fn begin(id: u32, terms: &Terms) -> Row {
+    let leaves = Leaves::Header(terms.begin_word);
+    Row { leaves, flip: Flip::Begin, ..work(id, BEGIN) }
+}
+
+/// "A setting of one word puts its header in the image word of its id. A setting of four words puts
+/// the header in word id and the rest in id+1 to id+3."
+fn setting(id: u32, masks: &[u32]) -> Row {
+    Row { kind: Kind::Setting, leaves: Leaves::AllWords(id as usize), ..work(id, masks) }
+}
+
+/// "The group is followed by length groups of four words."
+fn load(id: u32, terms: &Terms) -> Row {
+    let payload = Payload { groups: terms.load_length, group_words: 4 };
+    Row { payload: Some(payload), faults: load_faults(terms), ..work(id, LOAD) }
+}
+
+fn illegal(word: usize, test: Test) -> Fault {
+    Fault { kind: FaultKind::Illegal, word, test }
+}
+
+fn clash(word: usize, test: Test) -> Fault {
+    Fault { kind: FaultKind::Clash, word, test }
+}
+
+fn load_faults(terms: &Terms) -> Vec<Fault> {
+    let code = terms.load_code;
+    let must_be_zero = |word: usize, codes: &[u32]| {
+        let mask = |c| Mask { bits: if codes.contains(&c) { !0 } else { 0 }, width: 32 };
+        let masks = LEGAL_CODES.iter().map(|&c| (c, mask(c))).collect();
+        illegal(word, Value::Bits { word, key: code, masks }.is_not(0))
+    };
+    vec![
+        // "3, 4, 6 and 7 are illegal"
+        illegal(0, code.one_of(&[3, 4, 6, 7], 8)),
+        // "The second word is zero unless the code is 2."
+        must_be_zero(1, &[0, 1, 5]),
+        // "the third and fourth are zero for codes 0 and 5"
+        must_be_zero(2, &[0, 5]),
+        must_be_zero(3, &[0, 5]),
+        // "bit 23 may be set only with code 5"
+        clash(0, terms.load_converts.is_not(0).and(code.is_not(5))),
+        // "For code 5, offset plus length is at most 8"
+        clash(0, code.is(5).and(terms.load_offset.plus(terms.load_length).over(Value::Number(8)))),
+    ]
+}
+
+/// "header and three words all zero. Any other value is illegal."
+fn primitive_faults(terms: &Terms) -> Vec<Fault> {
+    vec![
+        illegal(0, terms.header.is_not(0)),
+        illegal(1, Field::word(1).is_not(0)),
+        illegal(2, Field::word(2).is_not(0)),
+        illegal(3, Field::word(3).is_not(0)),
+    ]
+}
+
+fn clip_faults(terms: &Terms) -> Vec<Fault> {
+    let (maximum, minimum) = (terms.page_maximum, terms.page_minimum);
+    vec![
+        // "the bank; 3 is illegal"
+        illegal(1, terms.bank.is(3)),
+        // "the stored maximum is at most 15, 11 and 6"
+        clash(2, maximum.over(Value::At(terms.bank, vec![15, 11, 6]))),
+        // "The stored minimum is zero or less than the stored maximum."
+        clash(2, minimum.is_not(0).and(minimum.at_least(maximum))),
+    ]
+}
+
+/// "if header bit 22 (page-based rendering) is 0, bit 14 (always full page) is 0"
+fn raster_faults(terms: &Terms) -> Vec<Fault> {
+    vec![clash(0, terms.page_based.is(0).and(terms.full_page.is_not(0)))]
+}
+
+fn check(verdict: u32, test: Test, position: Position) -> Check {
+    Check { verdict, when: When::Holds(test), position }
+}
+
+fn before_commands() -> Vec<Check> {
+    vec![
+        // "more than 4,096 words"
+        check(1, Quantity::ListWords.over(4096), Position::At(4096)),
+        // "image not 256 words"
+        check(2, Quantity::ImageWords.is_not(256), Position::At(0)),
+    ]
+}
+
+fn each_command() -> Vec<Check> {
+    use Position::{FirstWord, ThatWord};
+    let fault = |verdict, kind, position| Check { verdict, when: When::Fault(kind), position };
+    vec![
+        // "unknown id"
+        check(3, Quantity::Known.is(0), FirstWord),
+        // "id 03 or 04"
+        check(4, Quantity::OnlyThroughPci.is_not(0), FirstWord),
+        // "fewer than four words left for a group"
+        check(5, Quantity::WordsLeft.fewer_than(Quantity::OwnWords), FirstWord),
+        // "undefined bit set": "lowest such word"
+        Check { verdict: 6, when: When::UndefinedBit(Lowest::First), position: ThatWord },
+        // "illegal value": "lowest such word"
+        fault(7, FaultKind::Illegal, ThatWord),
+        // "clash": "command's first word"
+        fault(8, FaultKind::Clash, FirstWord),
+        // "payload cut short"
+        check(9, Quantity::WordsLeft.fewer_than(Quantity::Length), FirstWord),
+        // "this command follows a surface base and is not a BEGIN"
+        check(10, Quantity::AfterBase.is_not(0).and(Quantity::IsBegin.is(0)), FirstWord),
+    ]
+}
+
+/// "record or output buffer too small"
+fn after_commands() -> Vec<Check> {
+    vec![check(11, Quantity::Needed.more_than(Quantity::Room), Position::ListLength)]
+}
+
+/// "Each work command gives one record, in list order: id, position of its first word, its length in
+/// words with payload, header." "The room in a record buffer is its length divided by four, rounded
+/// down."
+fn records(terms: &Terms) -> Records {
+    use RecordWord::{Header, Id, Length, Position};
+    Records {
+        words: vec![Id, Position, Length, Header],
+        header: terms.header,
+        of: Recorded::Work,
+        order: RecordOrder::OfList,
+        room: RecordRoom { words: RECORD_WORDS, rounded: Rounded::Down },
+    }
+}
+
+/// "before each work command, in rising id, one command for each setting of which at least one image
+/// word differs between that list's image now and the image that the form has built so far, with the
+/// list's values; then the work command unchanged, payload and all. After the last work command the
+/// differing settings follow in the same way."
+fn form() -> Form {
+    let differing = Settings {
+        written: true,
+        order: SettingOrder::RisingId,
+        compared_with: ComparedWith::Built,
+        values: SettingValues::OfList,
+    };
+    Form {
+        before_work: differing.clone(),
+        work: WorkWords::WithPayload,
+        after_last_work: differing,
+    }
+}
+
+fn listing() -> Listing {
+    let column = |word, digits, least_digits| Column { word, digits, least_digits };
+    Listing {
+        // "Over 16,384 bytes is refusal 1, ahead of 12; 12 comes before any command is read."
+        before_list: vec![
+            check(1, Quantity::InputBytes.over(16_384), Position::At(4096)),
+            check(12, Quantity::SpareBytes.is_not(0), Position::WholeWordsRead),
+        ],
+        // "reads standard input as little-endian words and starts from a zero image"
+        byte_order: ByteOrder::Little,
+        starting_word: 0,
+        // "a header line, then a line per record: position decimal, id as two hex digits, length
+        // decimal, header as six hex digits, lower case. The last line has the counts."
+        title: "at id words head\n".into(),
+        columns: vec![
+            column(1, Digits::Decimal, 1),
+            column(0, Digits::LowerHex, 2),
+            column(2, Digits::Decimal, 1),
+            column(3, Digits::LowerHex, 6),
+        ],
+        accepted: "accepted commands ".into(),
+        items: " items ".into(),
+        // "A refusal prints only `refused N at P`."
+        refused: "refused ".into(),
+        at: " at ".into(),
+    }
+}

@@ -1,0 +1,259 @@
+//! The language in which `document` states the rules: fields of words, values, tests.
+
+/// Bits of a word of a command: `mask` counts from bit `low`.
+#[derive(Clone, Copy, Debug, PartialEq, Eq)]
+pub struct Field {
+    pub word: usize,
+    pub low: u32,
+    pub mask: u32,
+}
+
+impl Field {
+    /// Bits `high` to `low` of a word, as the guide writes them.
+    pub fn bits(word: usize, high: u32, low: u32) -> Field {
+        Field { word, low, mask: u32::MAX >> (31 - (high - low)) }
+    }
+
+    pub fn bit(word: usize, number: u32) -> Field {
+        Field::bits(word, number, number)
+    }
+
+    pub fn word(word: usize) -> Field {
+        Field::bits(word, 31, 0)
+    }
+
+    /// The field's value in a command; a word that isn't there counts as zero.
+    pub fn of(self, words: &[u32]) -> u32 {
+        let word = words.get(self.word).copied().unwrap_or(0);
+        word.checked_shr(self.low).unwrap_or(0) & self.mask
+    }
+
+    pub fn plus(self, other: Field) -> Value {
+        // Two fields of nine bits have a sum of ten.
+        Value::Sum(self, other, Mask { bits: 0x3FF, width: 10 })
+    }
+
+    pub fn is(self, number: u32) -> Test {
+        Value::Field(self).is(number)
+    }
+
+    pub fn is_not(self, number: u32) -> Test {
+        Value::Field(self).is_not(number)
+    }
+
+    pub fn over(self, limit: Value) -> Test {
+        Value::Field(self).over(limit)
+    }
+
+    pub fn at_least(self, other: Field) -> Test {
+        Test::Compare(Value::Field(self), Comparison::AtLeast, Value::Field(other))
+    }
+
+    pub fn one_of(self, members: &[u32], below: u32) -> Test {
+        Test::OneOf(self, Set { members: members.to_vec(), below })
+    }
+}
+
+/// Some of the lowest `width` bits of a word.
+#[derive(Clone, Copy, Debug, PartialEq, Eq)]
+pub struct Mask {
+    pub bits: u32,
+    pub width: u32,
+}
+
+/// Some of the numbers below a bound.
+#[derive(Clone, Debug, PartialEq, Eq)]
+pub struct Set {
+    pub members: Vec<u32>,
+    pub below: u32,
+}
+
+impl Set {
+    pub fn has(&self, number: u32) -> bool {
+        self.members.contains(&number)
+    }
+}
+
+/// Numbers known where a rule is tested, beside the command's own words.
+#[derive(Clone, Copy, Debug, PartialEq, Eq)]
+pub enum Quantity {
+    ListWords,
+    ImageWords,
+    /// From the command's first word to the list's end.
+    WordsLeft,
+    /// The command's words without payload.
+    OwnWords,
+    /// The command's words with payload.
+    Length,
+    /// 1 where the id is in the table, or is 03 or 04.
+    Known,
+    OnlyThroughPci,
+    AfterBase,
+    IsBegin,
+    /// Records or words to be written, and how many fit.
+    Needed,
+    Room,
+    InputBytes,
+    /// Input bytes behind the last whole word.
+    SpareBytes,
+}
+
+/// What a test can look at. Numbers that mean nothing at its place are zero.
+#[derive(Clone, Copy, Default)]
+pub struct Facts<'a> {
+    pub words: &'a [u32],
+    pub list_words: usize,
+    pub image_words: usize,
+    pub words_left: usize,
+    pub own_words: usize,
+    pub length: usize,
+    pub known: bool,
+    pub only_through_pci: bool,
+    pub after_base: bool,
+    pub is_begin: bool,
+    pub needed: usize,
+    pub room: usize,
+    pub input_bytes: usize,
+    pub spare_bytes: usize,
+}
+
+impl Facts<'_> {
+    fn number(&self, quantity: Quantity) -> u32 {
+        let number = match quantity {
+            Quantity::ListWords => self.list_words,
+            Quantity::ImageWords => self.image_words,
+            Quantity::WordsLeft => self.words_left,
+            Quantity::OwnWords => self.own_words,
+            Quantity::Length => self.length,
+            Quantity::Known => self.known as usize,
+            Quantity::OnlyThroughPci => self.only_through_pci as usize,
+            Quantity::AfterBase => self.after_base as usize,
+            Quantity::IsBegin => self.is_begin as usize,
+            Quantity::Needed => self.needed,
+            Quantity::Room => self.room,
+            Quantity::InputBytes => self.input_bytes,
+            Quantity::SpareBytes => self.spare_bytes,
+        };
+        number as u32
+    }
+}
+
+#[derive(Clone, Debug, PartialEq, Eq)]
+pub enum Value {
+    Number(u32),
+    Field(Field),
+    /// The sum of two fields, of which the masked bits count.
+    Sum(Field, Field, Mask),
+    /// The number that stands at the field's value.
+    At(Field, Vec<u32>),
+    /// The bits of a word that are in the mask beside the field's value.
+    Bits {
+        word: usize,
+        key: Field,
+        masks: Vec<(u32, Mask)>,
+    },
+    Quantity(Quantity),
+}
+
+impl Value {
+    pub fn of(&self, facts: &Facts) -> u32 {
+        match self {
+            Value::Number(number) => *number,
+            Value::Field(field) => field.of(facts.words),
+            Value::Sum(a, b, mask) => (a.of(facts.words) + b.of(facts.words)) & mask.bits,
+            Value::At(field, numbers) => {
+                numbers.get(field.of(facts.words) as usize).copied().unwrap_or(0)
+            }
+            Value::Bits { word, key, masks } => {
+                let key = key.of(facts.words);
+                let mask = masks.iter().find(|(value, _)| *value == key);
+                mask.map_or(0, |(_, mask)| Field::word(*word).of(facts.words) & mask.bits)
+            }
+            Value::Quantity(quantity) => facts.number(*quantity),
+        }
+    }
+
+    pub fn is(self, number: u32) -> Test {
+        Test::Compare(self, Comparison::Equal, Value::Number(number))
+    }
+
+    pub fn is_not(self, number: u32) -> Test {
+        Test::Compare(self, Comparison::NotEqual, Value::Number(number))
+    }
+
+    pub fn over(self, limit: Value) -> Test {
+        Test::Compare(self, Comparison::Over, limit)
+    }
+}
+
+impl Quantity {
+    pub fn is(self, number: u32) -> Test {
+        Value::Quantity(self).is(number)
+    }
+
+    pub fn is_not(self, number: u32) -> Test {
+        Value::Quantity(self).is_not(number)
+    }
+
+    pub fn over(self, limit: u32) -> Test {
+        Value::Quantity(self).over(Value::Number(limit))
+    }
+
+    pub fn more_than(self, other: Quantity) -> Test {
+        Value::Quantity(self).over(Value::Quantity(other))
+    }
+
+    pub fn fewer_than(self, other: Quantity) -> Test {
+        Test::Compare(Value::Quantity(self), Comparison::Below, Value::Quantity(other))
+    }
+}
+
+#[derive(Clone, Copy, Debug, PartialEq, Eq)]
+pub enum Comparison {
+    Below,
+    AtMost,
+    Equal,
+    NotEqual,
+    AtLeast,
+    Over,
+    Always,
+    Never,
+}
+
+impl Comparison {
+    fn holds(self, a: u32, b: u32) -> bool {
+        match self {
+            Comparison::Below => a < b,
+            Comparison::AtMost => a <= b,
+            Comparison::Equal => a == b,
+            Comparison::NotEqual => a != b,
+            Comparison::AtLeast => a >= b,
+            Comparison::Over => a > b,
+            Comparison::Always => true,
+            Comparison::Never => false,
+        }
+    }
+}
+
+#[derive(Clone, Debug, PartialEq, Eq)]
+pub enum Test {
+    Compare(Value, Comparison, Value),
+    OneOf(Field, Set),
+    Both(Box<Test>, Box<Test>),
+    Not(Box<Test>),
+}
+
+impl Test {
+    pub fn and(self, other: Test) -> Test {
+        Test::Both(Box::new(self), Box::new(other))
+    }
+
+    pub fn holds(&self, facts: &Facts) -> bool {
+        match self {
+            Test::Compare(a, comparison, b) => comparison.holds(a.of(facts), b.of(facts)),
+            Test::OneOf(field, set) => set.has(field.of(facts.words)),
+            Test::Both(a, b) => a.holds(facts) && b.holds(facts),
+            Test::Not(test) => !test.holds(facts),
+        }
+    }
+}

@@ -1,0 +1,57 @@
+//! The text of the listing program.
+
+use super::document::{IMAGE_WORDS, MAX_LIST_WORDS, RECORD_WORDS};
+use super::{ByteOrder, Column, Digits, Facts, Refusal, Rules, OTHER_ID};
+
+impl Rules {
+    /// What the listing program prints for its standard input.
+    pub fn listing(&self, input: &[u8]) -> String {
+        self.try_listing(input).unwrap_or_else(|refusal| {
+            let Refusal { verdict, position } = refusal;
+            format!("{}{verdict}{}{position}\n", self.listing.refused, self.listing.at)
+        })
+    }
+
+    fn try_listing(&self, input: &[u8]) -> Result<String, Refusal> {
+        let (input_bytes, spare_bytes) = (input.len(), input.len() % 4);
+        let facts = Facts { input_bytes, spare_bytes, ..Facts::default() };
+        self.pass(&self.listing.before_list, &OTHER_ID, 0, &facts)?;
+
+        let list = self.words_of(input);
+        let mut image = [self.listing.starting_word; IMAGE_WORDS];
+        // Room for a record from every word, so that 11 is never given.
+        let mut records = vec![0; RECORD_WORDS * MAX_LIST_WORDS];
+        let answer = self.try_read(&list, &mut image, &mut records)?;
+
+        let mut text = self.listing.title.clone();
+        let record_words = self.records.words.len();
+        for record in records.chunks_exact(record_words).take(answer.records as usize) {
+            let columns = self.listing.columns.iter().map(|column| column.text(record));
+            text += &columns.collect::<Vec<String>>().join(" ");
+            text += "\n";
+        }
+        let (accepted, items) = (&self.listing.accepted, &self.listing.items);
+        text += &format!("{accepted}{}{items}{}\n", answer.commands, answer.records);
+        Ok(text)
+    }
+
+    fn words_of(&self, input: &[u8]) -> Vec<u32> {
+        let word = |b: &[u8]| match self.listing.byte_order {
+            ByteOrder::Little => u32::from_le_bytes([b[0], b[1], b[2], b[3]]),
+            ByteOrder::Big => u32::from_be_bytes([b[0], b[1], b[2], b[3]]),
+        };
+        input.chunks_exact(4).map(word).collect()
+    }
+}
+
+impl Column {
+    fn text(&self, record: &[u32]) -> String {
+        let number = record.get(self.word).copied().unwrap_or(0);
+        let width = self.least_digits;
+        match self.digits {
+            Digits::Decimal => format!("{number:0width$}"),
+            Digits::LowerHex => format!("{number:0width$x}"),
+            Digits::UpperHex => format!("{number:0width$X}"),
+        }
+    }
+}

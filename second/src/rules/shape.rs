@@ -1,0 +1,246 @@
+//! What the rules consist of. `document` has their values; the macros let `mutants` change each
+//! value by itself.
+
+use super::language::{Facts, Field, Mask, Set, Test};
+use crate::vary::{choices, parts};
+
+parts! {
+    /// The rules of reading, of the normal form and of the listing.
+    pub struct Rules {
+        pub id: Field,
+        /// The header as the masks test it, and as the image holds it.
+        pub tested_header: Field,
+        pub left_header: Field,
+        /// Ids that go only through PCI.
+        pub pci: Set,
+        pub table: Table,
+        /// Refusals of the whole list, of each command, and of the room for the result.
+        pub before_commands: Vec<Check>,
+        pub each_command: Vec<Check>,
+        pub after_commands: Vec<Check>,
+        pub base_may_end_list: bool,
+        pub records: Records,
+        pub form: Form,
+        pub listing: Listing,
+    }
+}
+
+/// The table of commands, in rising id.
+#[derive(Clone, Debug, PartialEq)]
+pub struct Table(pub Vec<Row>);
+
+choices! {
+    pub enum Kind { Work, Setting }
+}
+
+choices! {
+    /// What a command is to the rule on flips.
+    pub enum Flip { Neither, SurfaceBase, Begin }
+}
+
+/// What a command puts in the image, and from which word on.
+#[derive(Clone, Copy, Debug, PartialEq, Eq)]
+pub enum Leaves {
+    Nothing,
+    Header(usize),
+    AllWords(usize),
+}
+
+/// A row of the table: one mask for each word of the command.
+#[derive(Clone, Debug, PartialEq)]
+pub struct Row {
+    pub id: u32,
+    pub masks: Vec<Mask>,
+    pub kind: Kind,
+    pub leaves: Leaves,
+    pub flip: Flip,
+    pub payload: Option<Payload>,
+    pub faults: Vec<Fault>,
+    /// The form writes differing settings before this work.
+    pub settings_first: bool,
+    /// The image words from the id on by which the form tells that this setting differs.
+    pub compared: Mask,
+}
+
+impl Row {
+    /// A work command of these masks that leaves nothing and has no other rule.
+    pub fn new(id: u32, masks: &[u32]) -> Row {
+        let width = |k: usize| if k == 0 { 24 } else { 32 };
+        let mask = |(k, &bits): (usize, &u32)| Mask { bits, width: width(k) };
+        let words = masks.len() as u32;
+        Row {
+            id,
+            masks: masks.iter().enumerate().map(mask).collect(),
+            kind: Kind::Work,
+            leaves: Leaves::Nothing,
+            flip: Flip::Neither,
+            payload: None,
+            faults: Vec::new(),
+            settings_first: true,
+            compared: Mask { bits: (1 << words) - 1, width: words + 1 },
+        }
+    }
+
+    pub fn own_words(&self) -> usize {
+        self.masks.len()
+    }
+
+    /// The words of the command with its payload, by its own words.
+    pub fn length(&self, words: &[u32]) -> usize {
+        let payload = self.payload.map_or(0, |p| p.group_words * p.groups.of(words) as usize);
+        self.own_words() + payload
+    }
+
+    /// The lowest word with a fault of this kind.
+    pub fn fault(&self, kind: FaultKind, facts: &Facts) -> Option<usize> {
+        let mut faults = self.faults.iter().filter(|fault| fault.kind == kind);
+        faults.find(|fault| fault.test.holds(facts)).map(|fault| fault.word)
+    }
+}
+
+#[derive(Clone, Copy, Debug, PartialEq, Eq)]
+pub struct Payload {
+    pub groups: Field,
+    pub group_words: usize,
+}
+
+choices! {
+    pub enum FaultKind { Illegal, Clash }
+}
+
+/// A value that the words of a command may not have. Faults stand in rising word.
+#[derive(Clone, Debug, PartialEq)]
+pub struct Fault {
+    pub kind: FaultKind,
+    pub word: usize,
+    pub test: Test,
+}
+
+/// A line of the table of verdicts. Lines stand in the order in which they are given.
+#[derive(Clone, Debug, PartialEq)]
+pub struct Check {
+    pub verdict: u32,
+    pub when: When,
+    pub position: Position,
+}
+
+#[derive(Clone, Debug, PartialEq)]
+pub enum When {
+    Holds(Test),
+    UndefinedBit(Lowest),
+    Fault(FaultKind),
+}
+
+choices! {
+    /// Which of several words is meant.
+    pub enum Lowest { First, Last }
+}
+
+#[derive(Clone, Copy, Debug, PartialEq, Eq)]
+pub enum Position {
+    At(usize),
+    FirstWord,
+    ThatWord,
+    ListLength,
+    WholeWordsRead,
+}
+
+parts! {
+    pub struct Records {
+        pub words: Vec<RecordWord>,
+        pub header: Field,
+        pub of: Recorded,
+        pub order: RecordOrder,
+        pub room: RecordRoom,
+    }
+}
+
+choices! {
+    pub enum RecordWord { Id, Position, Length, Header, FirstWord, OwnWords, Number }
+}
+
+choices! {
+    pub enum Recorded { Work, Settings, All }
+}
+
+choices! {
+    pub enum RecordOrder { OfList, Reversed }
+}
+
+parts! {
+    /// A buffer's length is divided by `words`.
+    pub struct RecordRoom {
+        pub words: usize,
+        pub rounded: Rounded,
+    }
+}
+
+choices! {
+    pub enum Rounded { Down, Up }
+}
+
+parts! {
+    pub struct Form {
+        pub before_work: Settings,
+        pub work: WorkWords,
+        pub after_last_work: Settings,
+    }
+}
+
+parts! {
+    /// The settings that the form writes at one place.
+    pub struct Settings {
+        pub written: bool,
+        pub order: SettingOrder,
+        pub compared_with: ComparedWith,
+        pub values: SettingValues,
+    }
+}
+
+choices! {
+    pub enum SettingOrder { RisingId, FallingId, AsLastSet }
+}
+
+choices! {
+    /// The image from which a setting differs.
+    pub enum ComparedWith { Built, Start, LastWork, Zeros }
+}
+
+choices! {
+    pub enum SettingValues { OfList, OfStart }
+}
+
+choices! {
+    pub enum WorkWords { WithPayload, OwnWords, FirstWord, NoWords }
+}
+
+parts! {
+    pub struct Listing {
+        pub before_list: Vec<Check>,
+        pub byte_order: ByteOrder,
+        pub starting_word: u32,
+        pub title: String,
+        pub columns: Vec<Column>,
+        pub accepted: String,
+        pub items: String,
+        pub refused: String,
+        pub at: String,
+    }
+}
+
+choices! {
+    pub enum ByteOrder { Little, Big }
+}
+
+parts! {
+    /// A number of a record: the record's word, and how it is written.
+    pub struct Column {
+        pub word: usize,
+        pub digits: Digits,
+        pub least_digits: usize,
+    }
+}
+
+choices! {
+    pub enum Digits { Decimal, LowerHex, UpperHex }
+}

@@ -1,0 +1,162 @@
+//! Changes of fields, masks, values and tests.
+
+use super::{within, Variants, Vary};
+use crate::rules::{Comparison, Field, Mask, Set, Test, Value};
+
+/// Each bit left out, one bit more at either end, all bits moved, another word.
+impl Vary for Field {
+    fn variants(&self) -> Variants<Self> {
+        let Field { word, low, mask } = *self;
+        let high = low + 31 - mask.leading_zeros();
+        let mut all = Vec::new();
+        for bit in low..=high {
+            let mask = mask & !(1 << (bit - low));
+            all.push((format!("without bit {bit}"), Field { mask, ..*self }));
+        }
+        if high < 31 {
+            let wider = Field { mask: mask << 1 | 1, ..*self };
+            all.push((format!("with bit {}", high + 1), wider));
+            all.push(("one bit higher".into(), Field { low: low + 1, ..*self }));
+        }
+        if low > 0 {
+            let lower = Field { low: low - 1, ..*self };
+            all.push(("one bit lower".into(), lower));
+            all.push((format!("with bit {}", low - 1), Field { mask: mask << 1 | 1, ..lower }));
+        }
+        if low < high {
+            let from_next = Field { low: low + 1, mask: mask >> 1, ..*self };
+            all.push((format!("from bit {}", low + 1), from_next));
+        }
+        for (name, word) in word.variants() {
+            all.push((format!("word {name}"), Field { word, ..*self }));
+        }
+        all
+    }
+}
+
+/// Each bit flipped, and all of them.
+impl Vary for Mask {
+    fn variants(&self) -> Variants<Self> {
+        let mut all = Vec::new();
+        for bit in 0..self.width {
+            let bits = self.bits ^ 1 << bit;
+            let name = if bits >> bit & 1 == 1 { "with" } else { "without" };
+            all.push((format!("{name} bit {bit}"), Mask { bits, ..*self }));
+        }
+        if self.width > 1 {
+            let every = u32::MAX >> (32 - self.width);
+            all.push(("complement".into(), Mask { bits: self.bits ^ every, ..*self }));
+        }
+        all
+    }
+}
+
+/// Each member left out, each other number added.
+impl Vary for Set {
+    fn variants(&self) -> Variants<Self> {
+        let change = |number: u32| {
+            let mut members = self.members.clone();
+            if self.has(number) {
+                members.retain(|&member| member != number);
+                return (format!("without {number:X}"), Set { members, ..*self });
+            }
+            members.push(number);
+            (format!("with {number:X}"), Set { members, ..*self })
+        };
+        (0..self.below).map(change).collect()
+    }
+}
+
+impl Vary for Value {
+    fn variants(&self) -> Variants<Self> {
+        match self {
+            Value::Number(number) => within("number", number, Value::Number),
+            Value::Field(field) => within("field", field, Value::Field),
+            Value::Sum(a, b, mask) => {
+                let mut all = within("first", a, |a| Value::Sum(a, *b, *mask));
+                all.extend(within("second", b, |b| Value::Sum(*a, b, *mask)));
+                all.extend(within("sum", mask, |mask| Value::Sum(*a, *b, mask)));
+                all.push(("first alone".into(), Value::Field(*a)));
+                all.push(("second alone".into(), Value::Field(*b)));
+                all
+            }
+            Value::At(field, numbers) => numbers_by_field(field, numbers),
+            Value::Bits { word, key, masks } => bits_by_field(*word, key, masks),
+            Value::Quantity(_) => Vec::new(),
+        }
+    }
+}
+
+fn numbers_by_field(field: &Field, numbers: &[u32]) -> Variants<Value> {
+    let mut all = within("chosen by", field, |field| Value::At(field, numbers.to_vec()));
+    for k in 0..numbers.len() {
+        all.extend(within(&format!("for {k}"), &numbers[k], |number| {
+            let mut numbers = numbers.to_vec();
+            numbers[k] = number;
+            Value::At(*field, numbers)
+        }));
+    }
+    all
+}
+
+fn bits_by_field(word: usize, key: &Field, masks: &[(u32, Mask)]) -> Variants<Value> {
+    let value = |word, key, masks: &[(u32, Mask)]| Value::Bits { word, key, masks: masks.to_vec() };
+    let mut all = within("chosen by", key, |key| value(word, key, masks));
+    all.extend(within("word", &word, |word| value(word, *key, masks)));
+    for (k, (number, mask)) in masks.iter().enumerate() {
+        all.extend(within(&format!("for {number}"), mask, |mask| {
+            let mut masks = masks.to_vec();
+            masks[k].1 = mask;
+            value(word, *key, &masks)
+        }));
+    }
+    all
+}
+
+/// Every other comparison. With zero on the right, which nothing is below, those that say the same
+/// are left out.
+fn other_comparisons(given: Comparison, right: &Value) -> Vec<Comparison> {
+    use Comparison::*;
+    let all: &[Comparison] = match right {
+        Value::Number(0) => &[Equal, NotEqual, Always, Never],
+        _ => &[Below, AtMost, Equal, NotEqual, AtLeast, Over, Always, Never],
+    };
+    all.iter().copied().filter(|other| *other != given).collect()
+}
+
+impl Vary for Test {
+    fn variants(&self) -> Variants<Self> {
+        match self {
+            Test::Compare(a, comparison, b) => compare_variants(a, *comparison, b),
+            Test::OneOf(field, set) => {
+                let mut all = within("field", field, |field| Test::OneOf(field, set.clone()));
+                all.extend(within("set", set, |set| Test::OneOf(*field, set)));
+                all.push(("negated".into(), Test::Not(Box::new(self.clone()))));
+                all
+            }
+            Test::Both(a, b) => {
+                let mut all = within("first", &**a, |a| a.and((**b).clone()));
+                all.extend(within("second", &**b, |b| (**a).clone().and(b)));
+                all.push(("negated".into(), Test::Not(Box::new(self.clone()))));
+                all.push(("either".into(), either(a, b)));
+                all
+            }
+            Test::Not(test) => within("not", &**test, |test| Test::Not(Box::new(test))),
+        }
+    }
+}
+
+fn compare_variants(a: &Value, comparison: Comparison, b: &Value) -> Variants<Test> {
+    let mut all = within("left", a, |a| Test::Compare(a, comparison, b.clone()));
+    all.extend(within("right", b, |b| Test::Compare(a.clone(), comparison, b)));
+    for other in other_comparisons(comparison, b) {
+        let name = format!("{other:?}, not {comparison:?}");
+        all.push((name, Test::Compare(a.clone(), other, b.clone())));
+    }
+    all
+}
+
+fn either(a: &Test, b: &Test) -> Test {
+    let not = |test: &Test| Test::Not(Box::new(test.clone()));
+    Test::Not(Box::new(not(a).and(not(b))))
+}

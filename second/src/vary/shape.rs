@@ -1,0 +1,175 @@
+//! Changes of the table of commands and of the table of verdicts.
+
+use super::{element_variants, within, Variants, Vary};
+use crate::rules::{
+    Check, Fault, FaultKind, Field, Kind, Leaves, Mask, Payload, Position, Row, Table, When,
+};
+
+/// Each row changed or left out, each unknown id added, each two settings in the other order.
+impl Vary for Table {
+    fn variants(&self) -> Variants<Self> {
+        let rows = element_variants(&self.0).into_iter();
+        let mut all: Variants<Table> = rows.map(|(name, rows)| (name, Table(rows))).collect();
+        for (k, row) in self.0.iter().enumerate() {
+            let mut rows = self.0.clone();
+            rows.remove(k);
+            all.push((format!("{}: left out", row.label(k)), Table(rows)));
+        }
+        for id in (0..256).filter(|id| self.0.iter().all(|row| row.id != *id)) {
+            for masks in [&[0xFFFFFF][..], &[0xFFFFFF, !0, !0, !0]] {
+                let mut rows = self.0.clone();
+                rows.push(Row::new(id, masks));
+                all.push((format!("{id:02X} added with {} words", masks.len()), Table(rows)));
+            }
+        }
+        all.extend(swapped_settings(&self.0));
+        all
+    }
+}
+
+fn swapped_settings(rows: &[Row]) -> Variants<Table> {
+    let setting = |k: &usize| rows[*k].kind == Kind::Setting;
+    let places: Vec<usize> = (0..rows.len()).filter(setting).collect();
+    let swap = |pair: &[usize]| {
+        let mut rows = rows.to_vec();
+        rows.swap(pair[0], pair[1]);
+        (format!("{:02X} behind {:02X}", rows[pair[1]].id, rows[pair[0]].id), Table(rows))
+    };
+    places.windows(2).map(swap).collect()
+}
+
+impl Vary for Row {
+    fn variants(&self) -> Variants<Self> {
+        let row = || self.clone();
+        let mut all = within("id", &self.id, |id| Row { id, ..row() });
+        all.extend(self.mask_variants());
+        all.extend(within("kind", &self.kind, |kind| Row { kind, ..row() }));
+        all.extend(within("flip", &self.flip, |flip| Row { flip, ..row() }));
+        for leaves in self.other_leavings() {
+            all.push((format!("leaves {leaves:?}"), Row { leaves, ..row() }));
+        }
+        all.extend(self.payload_variants());
+        all.extend(within("faults", &self.faults, |faults| Row { faults, ..row() }));
+        match self.kind {
+            Kind::Work => {
+                let settings_first = !self.settings_first;
+                all.push(("no settings first".into(), Row { settings_first, ..row() }));
+            }
+            Kind::Setting => {
+                all.extend(within("compared", &self.compared, |compared| Row { compared, ..row() }))
+            }
+        }
+        all
+    }
+
+    fn label(&self, _: usize) -> String {
+        format!("{:02X}", self.id)
+    }
+}
+
+impl Row {
+    /// Each bit of each mask, and other sizes.
+    fn mask_variants(&self) -> Variants<Row> {
+        let row = |masks: Vec<Mask>| Row { masks, ..self.clone() };
+        let masks = element_variants(&self.masks).into_iter();
+        let mut all: Variants<Row> =
+            masks.map(|(name, masks)| (format!("mask {name}"), row(masks))).collect();
+        for words in [1, 2, 3, 4, 5].into_iter().filter(|words| *words != self.own_words()) {
+            let mut masks = self.masks.clone();
+            masks.resize(words, Mask { bits: !0, width: 32 });
+            all.push((format!("{words} words"), row(masks)));
+        }
+        all
+    }
+
+    fn other_leavings(&self) -> Vec<Leaves> {
+        let id = self.id as usize;
+        let mut all = vec![Leaves::Nothing];
+        let places = [0x08, id.wrapping_sub(1), id, id + 1];
+        for (k, word) in places.into_iter().enumerate().filter(|(_, word)| *word < 256) {
+            if !places[..k].contains(&word) {
+                all.push(Leaves::Header(word));
+                all.push(Leaves::AllWords(word));
+            }
+        }
+        // A command of one word has nothing but its header.
+        let single = |leaves: &Leaves| match *leaves {
+            Leaves::AllWords(word) if self.own_words() == 1 => Leaves::Header(word),
+            other => other,
+        };
+        all.retain(|leaves| single(leaves) != single(&self.leaves));
+        all.retain(|leaves| single(leaves) == *leaves);
+        all
+    }
+
+    /// None, another one, or a payload like a load's.
+    fn payload_variants(&self) -> Variants<Row> {
+        let row = |payload| Row { payload, ..self.clone() };
+        let Some(payload) = self.payload else {
+            let like_load = Payload { groups: Field::bits(0, 8, 0), group_words: 4 };
+            return vec![("payload: like a load's".into(), row(Some(like_load)))];
+        };
+        let Payload { groups, group_words } = payload;
+        let mut all =
+            within("payload groups", &groups, |groups| row(Some(Payload { groups, ..payload })));
+        all.extend(within("payload group words", &group_words, |group_words| {
+            row(Some(Payload { group_words, ..payload }))
+        }));
+        all.push(("payload: none".into(), row(None)));
+        all
+    }
+}
+
+impl Vary for Fault {
+    fn variants(&self) -> Variants<Self> {
+        let mut all = within("kind", &self.kind, |kind| Fault { kind, ..self.clone() });
+        all.extend(within("test", &self.test, |test| Fault { test, ..self.clone() }));
+        // A clash is told at the first word.
+        if self.kind == FaultKind::Illegal {
+            all.extend(within("word", &self.word, |word| Fault { word, ..self.clone() }));
+        }
+        all
+    }
+}
+
+impl Vary for Check {
+    fn variants(&self) -> Variants<Self> {
+        let mut all = within("verdict", &self.verdict, |verdict| Check { verdict, ..self.clone() });
+        all.extend(within("when", &self.when, |when| Check { when, ..self.clone() }));
+        for position in self.other_positions() {
+            all.push((format!("at {position:?}"), Check { position, ..self.clone() }));
+        }
+        all
+    }
+
+    fn label(&self, _: usize) -> String {
+        format!("verdict {}", self.verdict)
+    }
+}
+
+impl Check {
+    /// Positions that can be told from the given one. Only 6, 7 and 8 are found at a word.
+    fn other_positions(&self) -> Vec<Position> {
+        use Position::*;
+        let of_word = !matches!(self.when, When::Holds(_));
+        match self.position {
+            At(0) => vec![At(1), ListLength],
+            At(number) => vec![At(0), At(number - 1), At(number + 1), ListLength],
+            FirstWord if of_word => vec![At(0), ThatWord, ListLength],
+            FirstWord => vec![At(0), ListLength],
+            ThatWord => vec![At(0), FirstWord, ListLength],
+            ListLength => vec![At(0)],
+            WholeWordsRead => vec![At(0), ListLength],
+        }
+    }
+}
+
+impl Vary for When {
+    fn variants(&self) -> Variants<Self> {
+        match self {
+            When::Holds(test) => within("test", test, When::Holds),
+            When::UndefinedBit(which) => within("word", which, When::UndefinedBit),
+            When::Fault(_) => Vec::new(),
+        }
+    }
+}
