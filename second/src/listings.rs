@@ -16,19 +16,29 @@ pub fn write(folder: &Path) -> io::Result<()> {
     Ok(())
 }
 
-/// Writes stdin and stdout of the test program `listings`: each input after its length in two
-/// bytes, low first. Two that are long and like others are left out.
+/// Writes stdin and stdout of the test program `listings`.
 pub fn write_crate(folder: &Path) -> io::Result<()> {
-    let (mut stdin, mut stdout) = (Vec::new(), String::new());
-    for (name, input) in inputs() {
-        if name != "refused-1-much-more" && name != "one-word-less" {
-            stdin.extend((input.len() as u16).to_le_bytes());
-            stdin.extend(&input);
-            stdout += &rules::paper().listing(&input);
-        }
-    }
+    let (stdin, stdout) = crate_files();
     fs::write(folder.join("stdin"), stdin)?;
     fs::write(folder.join("stdout"), stdout)
+}
+
+/// Each input after its length in two bytes, low first; and the texts.
+pub fn crate_files() -> (Vec<u8>, String) {
+    let (mut stdin, mut stdout) = (Vec::new(), String::new());
+    for (_, input) in stored_inputs() {
+        stdin.extend((input.len() as u16).to_le_bytes());
+        stdin.extend(&input);
+        stdout += &rules::paper().listing(&input);
+    }
+    (stdin, stdout)
+}
+
+/// Two that are long and like others are left out.
+pub fn stored_inputs() -> Vec<(&'static str, Vec<u8>)> {
+    let mut inputs = inputs();
+    inputs.retain(|(name, _)| !["refused-1-much-more", "one-word-less"].contains(name));
+    inputs
 }
 
 /// 2 and 11 are never printed: the program has its own image and enough room.

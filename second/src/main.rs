@@ -3,6 +3,7 @@
 mod compare;
 mod listings;
 mod lists;
+mod mutants;
 mod outcome;
 mod paper;
 mod prng;
@@ -23,6 +24,8 @@ usage: second self-test          check the rules against the paper's cases and d
        second count N [SEED]     count the verdicts on N lists
        second compare N [SEED]   compare with the proved library on N lists (feature `proved`)
        second case K [SEED]      print case K and what the rules give for it
+       second mutants FOLDER     show which stored case sees each change of the rules; the
+                                 crates' stored files are in FOLDER
        second vectors            write the file of cases and digests to standard output
        second listings FOLDER    write inputs and outputs of the listing program
        second listings-crate FOLDER   write stdin and stdout of the crate `listings`
@@ -47,6 +50,11 @@ fn run(words: &[&str]) -> io::Result<ExitCode> {
     match words {
         ["self-test"] => self_test(),
         ["vectors"] => io::stdout().write_all(&listings::bytes(&vectors::words()))?,
+        ["mutants", crates] => {
+            if !mutants::report(Path::new(crates))? {
+                return Ok(ExitCode::FAILURE);
+            }
+        }
         ["listings", folder] => listings::write(Path::new(folder))?,
         ["listings-crate", folder] => listings::write_crate(Path::new(folder))?,
         ["listing"] => listing()?,

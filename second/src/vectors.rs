@@ -4,14 +4,14 @@
 //! length, digest, then the list.
 
 use crate::lists::{self, Case, Image, Purpose};
-use crate::outcome::{self, Outcome};
+use crate::outcome::{self, Function, Outcome};
 use crate::prng::Prng;
 use crate::rules;
 
 /// The fixed sample and enough random cases to make this many.
 const CASES: usize = 4500;
 
-fn stored_cases() -> Vec<Case> {
+pub fn stored_cases() -> Vec<Case> {
     let mut cases = lists::fixed_sample();
     for number in cases.len()..CASES {
         cases.push(lists::random_case(&mut Prng::new(6, number as u64), Purpose::Store));
@@ -27,8 +27,7 @@ fn case_words(case: &Case) -> Vec<u32> {
     let Image::Seeded { seed, len } = case.image else {
         panic!("an image that can't be stored");
     };
-    let digest =
-        digest(&outcome::read(rules::paper(), case), &outcome::normalise(rules::paper(), case));
+    let digest = digest_of(|function| outcome::of(function, rules::paper(), case));
     let front = [case.list.len(), seed as usize, len, case.records_len, case.out_len];
     let mut words: Vec<u32> = front.iter().map(|&number| number as u32).collect();
     words.push(digest);
@@ -37,7 +36,8 @@ fn case_words(case: &Case) -> Vec<u32> {
 }
 
 /// Over the reader's answer, image and records, then the normaliser's answer and output buffer.
-fn digest(reader: &Outcome, normaliser: &Outcome) -> u32 {
+pub fn digest_of(run: impl Fn(Function) -> Outcome) -> u32 {
+    let (reader, normaliser) = (run(Function::Reader), run(Function::Normaliser));
     let sequence =
         [&reader.answer[..], &reader.image, &reader.buffer, &normaliser.answer, &normaliser.buffer];
     let add = |d: u32, w: &u32| d.wrapping_mul(16_777_619).wrapping_add(*w);

@@ -292,13 +292,15 @@ fn listing() -> Listing {
         starting_word: 0,
         // "a header line, then a line per record: position decimal, id as two hex digits, length
         // decimal, header as six hex digits, lower case. The last line has the counts."
-        title: "at id words head\n".into(),
+        title: "at id words head".into(),
         columns: vec![
             column(1, Digits::Decimal, 1),
             column(0, Digits::LowerHex, 2),
             column(2, Digits::Decimal, 1),
             column(3, Digits::LowerHex, 6),
         ],
+        between_columns: " ".into(),
+        line_end: "\n".into(),
         accepted: "accepted commands ".into(),
         items: " items ".into(),
         // "A refusal prints only `refused N at P`."

@@ -1,14 +1,15 @@
 //! The text of the listing program.
 
 use super::document::{IMAGE_WORDS, MAX_LIST_WORDS, RECORD_WORDS};
-use super::{ByteOrder, Column, Digits, Facts, Refusal, Rules, OTHER_ID};
+use super::{ByteOrder, Column, Digits, Facts, Listing, Refusal, Rules, OTHER_ID};
 
 impl Rules {
     /// What the listing program prints for its standard input.
     pub fn listing(&self, input: &[u8]) -> String {
         self.try_listing(input).unwrap_or_else(|refusal| {
             let Refusal { verdict, position } = refusal;
-            format!("{}{verdict}{}{position}\n", self.listing.refused, self.listing.at)
+            let Listing { refused, at, line_end, .. } = &self.listing;
+            format!("{refused}{verdict}{at}{position}{line_end}")
         })
     }
 
@@ -23,15 +24,15 @@ impl Rules {
         let mut records = vec![0; RECORD_WORDS * MAX_LIST_WORDS];
         let answer = self.try_read(&list, &mut image, &mut records)?;
 
-        let mut text = self.listing.title.clone();
+        let Listing { title, between_columns, line_end, accepted, items, .. } = &self.listing;
+        let mut text = format!("{title}{line_end}");
         let record_words = self.records.words.len();
         for record in records.chunks_exact(record_words).take(answer.records as usize) {
             let columns = self.listing.columns.iter().map(|column| column.text(record));
-            text += &columns.collect::<Vec<String>>().join(" ");
-            text += "\n";
+            text += &columns.collect::<Vec<String>>().join(between_columns);
+            text += line_end;
         }
-        let (accepted, items) = (&self.listing.accepted, &self.listing.items);
-        text += &format!("{accepted}{}{items}{}\n", answer.commands, answer.records);
+        text += &format!("{accepted}{}{items}{}{line_end}", answer.commands, answer.records);
         Ok(text)
     }
 

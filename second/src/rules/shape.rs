@@ -221,6 +221,8 @@ parts! {
         pub starting_word: u32,
         pub title: String,
         pub columns: Vec<Column>,
+        pub between_columns: String,
+        pub line_end: String,
         pub accepted: String,
         pub items: String,
         pub refused: String,

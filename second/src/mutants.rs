@@ -1,0 +1,128 @@
+//! Every single change of the rules, and the stored case of the gate that sees it.
+
+mod changes;
+mod effects;
+mod equivalent;
+mod orders;
+mod stored;
+
+use crate::listings;
+use crate::lists::{self, Case};
+use crate::outcome::{self, Function};
+use crate::rules;
+use changes::Mutant;
+use std::io;
+use std::path::Path;
+use stored::{Seen, Stored};
+
+/// Random cases on which the changes that no list can show are run.
+const RANDOM_CASES: usize = 100_000;
+
+/// Prints what sees each change; true when each is seen or named with a reason, and none is both.
+pub fn report(crates: &Path) -> io::Result<bool> {
+    let stored = Stored::read(crates)?;
+    let mut tally = Tally::default();
+    let (mut named, mut missed) = (Vec::new(), Vec::new());
+    for mutant in changes::all() {
+        let reason = equivalent::reason(&mutant.name);
+        match (stored.first_to_see(&mutant), reason) {
+            (Some(seen), None) => tally.add(&mutant, &seen),
+            (Some(seen), Some(_)) => tally.add_named(&mutant, &seen),
+            (None, Some(reason)) => named.push((mutant, reason)),
+            (None, None) => missed.push(mutant),
+        }
+    }
+    println!("\nNo list can show:");
+    for (mutant, reason) in &named {
+        println!("  {}: {reason}", mutant.name);
+    }
+    let named: Vec<Mutant> = named.into_iter().map(|(mutant, _)| mutant).collect();
+    tally.named = named.len();
+    tally.missed = missed.len();
+    tally.named_and_shown = run_at_length(&named);
+    tally.unused_reasons = equivalent::unused(&named);
+    run_at_length(&missed);
+    for mutant in &missed {
+        println!("not seen: {}", mutant.name);
+    }
+    Ok(tally.print())
+}
+
+#[derive(Default)]
+struct Tally {
+    by_vectors: usize,
+    by_listings: usize,
+    named: usize,
+    named_and_seen: usize,
+    named_and_shown: usize,
+    unused_reasons: usize,
+    missed: usize,
+}
+
+impl Tally {
+    fn add(&mut self, mutant: &Mutant, seen: &Seen) {
+        println!("{}: {}", mutant.name, seen.text);
+        match seen.by_vectors {
+            true => self.by_vectors += 1,
+            false => self.by_listings += 1,
+        }
+    }
+
+    fn add_named(&mut self, mutant: &Mutant, seen: &Seen) {
+        self.add(mutant, seen);
+        println!("  though it is named as one that no list can show");
+        self.named_and_seen += 1;
+    }
+
+    /// True when all is as it has to be.
+    fn print(&self) -> bool {
+        let Tally { by_vectors, by_listings, named, missed, .. } = self;
+        let seen = by_vectors + by_listings;
+        println!("\n{} changes", seen + named + missed);
+        println!("{seen} seen: {by_vectors} by vectors, {by_listings} by listings");
+        println!("{named} that no list can show, each named with its reason");
+        let faults = [
+            (*missed, "not seen"),
+            (self.named_and_seen, "named, and yet seen"),
+            (self.named_and_shown, "named, and yet shown by a fixed or random case"),
+            (self.unused_reasons, "reasons for no change"),
+        ];
+        faults.iter().for_each(|(count, what)| println!("{count} {what}"));
+        faults.iter().all(|(count, _)| *count == 0)
+    }
+}
+
+/// Runs changes on the fixed cases and many random ones; how many of them some case shows.
+fn run_at_length(mutants: &[Mutant]) -> usize {
+    let fixed = lists::fixed_cases();
+    let mut open: Vec<&Mutant> = mutants.iter().collect();
+    for index in 0..fixed.len() + RANDOM_CASES {
+        if open.is_empty() {
+            break;
+        }
+        let case = lists::case(&fixed, index, 1);
+        let expected = [Function::Reader, Function::Normaliser]
+            .map(|function| (function, outcome::of(function, rules::paper(), &case)));
+        open.retain(|mutant| {
+            let mut differences = expected.iter().filter_map(|(function, expected)| {
+                outcome::difference(*function, &mutant.run(*function, &case), expected)
+            });
+            let shown = differences.next().or_else(|| other_listing(mutant, &case));
+            if let Some(difference) = &shown {
+                let list = stored::described(&case);
+                println!("{}: shown by {list}: {difference}", mutant.name);
+            }
+            shown.is_none()
+        });
+    }
+    mutants.len() - open.len()
+}
+
+fn other_listing(mutant: &Mutant, case: &Case) -> Option<String> {
+    if !mutant.is_of_listing() {
+        return None;
+    }
+    let input = listings::bytes(&case.list);
+    let listing = mutant.listing(&input);
+    (listing != rules::paper().listing(&input)).then_some(listing)
+}

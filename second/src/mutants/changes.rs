@@ -1,0 +1,78 @@
+//! All the changes: of each part of the rules, of orders, of answers and lent words.
+
+use super::{effects, orders};
+use crate::lists::Case;
+use crate::outcome::{self, Function, Outcome};
+use crate::rules::{self, Rules, Terms};
+use crate::vary::Vary;
+
+pub struct Mutant {
+    pub name: String,
+    change: Change,
+}
+
+enum Change {
+    Rules(Box<Rules>),
+    Outcome(Box<OutcomeChange>),
+    Listing(Box<ListingChange>),
+}
+
+/// What document 01 gives for a case, changed.
+pub type OutcomeChange = dyn Fn(Function, &Case, Outcome) -> Outcome;
+
+/// The text for an input, made otherwise.
+pub type ListingChange = dyn Fn(&[u8]) -> String;
+
+impl Mutant {
+    pub fn of_rules(name: String, rules: Rules) -> Mutant {
+        Mutant { name, change: Change::Rules(Box::new(rules)) }
+    }
+
+    pub fn of_outcome(
+        name: String,
+        change: impl Fn(Function, &Case, Outcome) -> Outcome + 'static,
+    ) -> Mutant {
+        Mutant { name, change: Change::Outcome(Box::new(change)) }
+    }
+
+    pub fn of_listing(name: &str, change: impl Fn(&[u8]) -> String + 'static) -> Mutant {
+        Mutant { name: name.into(), change: Change::Listing(Box::new(change)) }
+    }
+
+    pub fn run(&self, function: Function, case: &Case) -> Outcome {
+        let paper = rules::paper();
+        match &self.change {
+            Change::Rules(rules) => outcome::of(function, rules, case),
+            Change::Outcome(change) => change(function, case, outcome::of(function, paper, case)),
+            Change::Listing(_) => outcome::of(function, paper, case),
+        }
+    }
+
+    pub fn listing(&self, input: &[u8]) -> String {
+        match &self.change {
+            Change::Rules(rules) => rules.listing(input),
+            Change::Outcome(_) => rules::paper().listing(input),
+            Change::Listing(change) => change(input),
+        }
+    }
+
+    /// The change is in what only the listing program does.
+    pub fn is_of_listing(&self) -> bool {
+        match &self.change {
+            Change::Rules(rules) => rules.listing != rules::paper().listing,
+            Change::Outcome(_) => false,
+            Change::Listing(_) => true,
+        }
+    }
+}
+
+pub fn all() -> Vec<Mutant> {
+    let everywhere = Terms::paper().variants().into_iter();
+    let everywhere =
+        everywhere.map(|(name, terms)| (format!("everywhere: {name}"), Rules::with(&terms)));
+    let rules = Rules::paper().variants().into_iter().chain(everywhere);
+    let mut all: Vec<Mutant> = rules.map(|(name, rules)| Mutant::of_rules(name, rules)).collect();
+    all.extend(orders::all());
+    all.extend(effects::all());
+    all
+}

@@ -1,0 +1,193 @@
+//! Answers and lent words other than document 01's, for each verdict by itself.
+
+use super::changes::Mutant;
+use crate::lists::Case;
+use crate::outcome::{Function, Outcome};
+use crate::rules::{self, put, IMAGE_WORDS};
+
+const FUNCTIONS: [(Function, &str); 2] =
+    [(Function::Reader, "reader"), (Function::Normaliser, "normaliser")];
+const NUMBERS: [&str; 5] = ["verdict", "position", "commands", "records", "words"];
+const POSITION: usize = 1;
+const COMMANDS: usize = 2;
+const RECORDS: usize = 3;
+const WORDS: usize = 4;
+/// Those of the reader and the normaliser.
+const LAST_VERDICT: u32 = 11;
+
+pub fn all() -> Vec<Mutant> {
+    let mut all = Vec::new();
+    for (function, name) in FUNCTIONS {
+        for verdict in 0..=LAST_VERDICT {
+            let at = Place { function, verdict, name: format!("{name}, verdict {verdict}") };
+            all.extend(numbers(&at));
+            all.extend(lent_words(&at));
+            match verdict {
+                0 => all.extend(accepted(&at)),
+                1 | 2 => {}
+                _ => all.extend(done_before_refusal(&at)),
+            }
+        }
+    }
+    all.extend(image_words());
+    all.extend(listings());
+    all
+}
+
+/// The outcomes of one function with one verdict.
+#[derive(Clone)]
+struct Place {
+    function: Function,
+    verdict: u32,
+    name: String,
+}
+
+impl Place {
+    fn change(&self, what: &str, change: impl Fn(&Case, &mut Outcome) + 'static) -> Mutant {
+        let place = self.clone();
+        let name = format!("{}: {what}", self.name);
+        Mutant::of_outcome(name, move |function, case, mut outcome| {
+            if function == place.function && outcome.answer[0] == place.verdict {
+                change(case, &mut outcome);
+            }
+            outcome
+        })
+    }
+}
+
+/// Each number of the answer off by one.
+fn numbers(at: &Place) -> Vec<Mutant> {
+    let mut all = Vec::new();
+    for (k, number) in NUMBERS.iter().enumerate() {
+        for (way, step) in [("one more", 1), ("one less", u32::MAX)] {
+            all.push(at.change(&format!("{number} {way}"), move |_, outcome| {
+                outcome.answer[k] = outcome.answer[k].wrapping_add(step);
+            }));
+        }
+    }
+    all
+}
+
+/// A word changed that has to stay.
+fn lent_words(at: &Place) -> Vec<Mutant> {
+    let mut all = vec![
+        at.change("word behind those written changed", |_, outcome| {
+            let written = outcome.answer[WORDS] as usize;
+            outcome.buffer.iter_mut().skip(written).take(1).for_each(|word| *word = 0);
+        }),
+        at.change("last word of the buffer cleared", |_, outcome| {
+            let written = outcome.answer[WORDS] as usize;
+            outcome.buffer[written..].iter_mut().rev().take(1).for_each(|word| *word = 0);
+        }),
+        at.change("rest of the buffer cleared", |_, outcome| {
+            let written = outcome.answer[WORDS] as usize;
+            outcome.buffer[written..].fill(0);
+        }),
+    ];
+    if at.function == Function::Reader && at.verdict != 0 {
+        all.push(at.change("image cleared", |_, outcome| outcome.image.fill(0)));
+        all.push(at.change("first word of the image changed", |_, outcome| {
+            outcome.image.iter_mut().take(1).for_each(|word| *word ^= 1);
+        }));
+        all.push(at.change("last word of the image changed", |_, outcome| {
+            outcome.image.iter_mut().rev().take(1).for_each(|word| *word ^= 1);
+        }));
+    }
+    all
+}
+
+/// Other numbers that an accepted list has.
+fn accepted(at: &Place) -> Vec<Mutant> {
+    let mut all = Vec::new();
+    for to in [POSITION, COMMANDS, RECORDS, WORDS] {
+        for from in [POSITION, COMMANDS, RECORDS, WORDS].into_iter().filter(|from| *from != to) {
+            let what = format!("{} for {}", NUMBERS[from], NUMBERS[to]);
+            all.push(at.change(&what, move |_, outcome| outcome.answer[to] = outcome.answer[from]));
+        }
+        let what = format!("no {}", NUMBERS[to]);
+        all.push(at.change(&what, move |_, outcome| outcome.answer[to] = 0));
+    }
+    all.push(at.change("words: those of the buffer", |_, outcome| {
+        outcome.answer[WORDS] = outcome.buffer.len() as u32;
+    }));
+    if at.function == Function::Normaliser {
+        all.push(at.change("commands: those of the form", |_, outcome| {
+            let form = &outcome.buffer[..outcome.answer[WORDS] as usize];
+            outcome.answer[COMMANDS] = rules::paper().walk(form).0.len() as u32;
+        }));
+        all.push(at.change("words: four for each record", |_, outcome| {
+            outcome.answer[WORDS] = 4 * outcome.answer[RECORDS];
+        }));
+        all.push(at.change("position: the form's length", |_, outcome| {
+            outcome.answer[POSITION] = outcome.answer[WORDS];
+        }));
+    }
+    all
+}
+
+/// What the commands before the refused one do, done in spite of it.
+fn done_before_refusal(at: &Place) -> Vec<Mutant> {
+    let paper = rules::paper();
+    let mut all = vec![
+        at.change("commands before it counted", |case, outcome| {
+            outcome.answer[COMMANDS] = paper.walk(&case.list).0.len() as u32;
+        }),
+        at.change("records before it counted", |case, outcome| {
+            let commands = paper.walk(&case.list).0;
+            outcome.answer[RECORDS] = commands.iter().filter(|c| c.is_work()).count() as u32;
+        }),
+    ];
+    if at.function == Function::Normaliser {
+        all.push(at.change("form before it written", |case, outcome| {
+            let form = paper.normal_form(&paper.walk(&case.list).0, &case.image.words());
+            put(&mut outcome.buffer, &form);
+        }));
+        return all;
+    }
+    all.push(at.change("commands before it applied", |case, outcome| {
+        for command in paper.walk(&case.list).0 {
+            paper.apply(&command, &mut outcome.image);
+        }
+    }));
+    all.push(at.change("records before it written", |case, outcome| {
+        put(&mut outcome.buffer, &paper.records(&paper.walk(&case.list).0).concat());
+    }));
+    all
+}
+
+/// Each word of the image changed by an accepted list.
+fn image_words() -> Vec<Mutant> {
+    let at = Place { function: Function::Reader, verdict: 0, name: "reader, verdict 0".into() };
+    let changed = |k: usize| {
+        at.change(&format!("image word {k:02X} changed"), move |_, outcome| outcome.image[k] ^= 1)
+    };
+    (0..IMAGE_WORDS).map(changed).collect()
+}
+
+fn listings() -> Vec<Mutant> {
+    let paper = rules::paper();
+    let at_next = |input: &[u8]| match input.len() % 4 {
+        0 => paper.listing(input),
+        _ => paper.listing(input).replace(
+            &format!("refused 12 at {}", input.len() / 4),
+            &format!("refused 12 at {}", input.len().div_ceil(4)),
+        ),
+    };
+    let lines_before_refusal = |input: &[u8]| {
+        let text = paper.listing(input);
+        let words: Vec<u32> =
+            input.chunks_exact(4).map(|b| u32::from_le_bytes([b[0], b[1], b[2], b[3]])).collect();
+        let (commands, refusal) = paper.walk(&words);
+        if refusal.is_none() || input.len() % 4 != 0 {
+            return text;
+        }
+        let end = commands.last().map_or(0, |c| c.position + c.words.len());
+        let before = paper.listing(&input[..4 * end]);
+        let lines: Vec<&str> = before.lines().collect();
+        format!("{}\n{text}", lines[..lines.len() - 1].join("\n"))
+    };
+    vec![
+        Mutant::of_listing("listing, verdict 12: at the word cut", at_next),
+        Mutant::of_listing("listing: lines before a refusal", lines_before_refusal),
+    ]
+}

@@ -1,0 +1,83 @@
+//! The stored cases of the gate: the files that the crates `vectors` and `listings` read.
+
+use super::changes::Mutant;
+use crate::listings;
+use crate::lists::Case;
+use crate::outcome::{self, Function};
+use crate::rules;
+use crate::vectors;
+use std::fs;
+use std::io;
+use std::path::Path;
+
+pub struct Stored {
+    vectors: Vec<(Case, u32)>,
+    listings: Vec<(&'static str, Vec<u8>)>,
+}
+
+pub struct Seen {
+    pub by_vectors: bool,
+    pub text: String,
+}
+
+impl Stored {
+    /// Fails where the files aren't those that this program writes.
+    pub fn read(crates: &Path) -> io::Result<Stored> {
+        let stale = |what: &str| io::Error::other(format!("{what} has other cases; write it anew"));
+        let (stdin, stdout) = listings::crate_files();
+        for (name, wanted) in [
+            ("vectors/stdin", listings::bytes(&vectors::words())),
+            ("listings/stdin", stdin),
+            ("listings/stdout", stdout.into_bytes()),
+        ] {
+            if fs::read(crates.join(name))? != wanted {
+                return Err(stale(name));
+            }
+        }
+        let of_case = |case: Case| {
+            let digest =
+                vectors::digest_of(|function| outcome::of(function, rules::paper(), &case));
+            (case, digest)
+        };
+        let vectors = vectors::stored_cases().into_iter().map(of_case).collect();
+        Ok(Stored { vectors, listings: listings::stored_inputs() })
+    }
+
+    /// The first case whose digest, or else the first input whose listing, isn't the stored one.
+    pub fn first_to_see(&self, mutant: &Mutant) -> Option<Seen> {
+        let differs = |(_, (case, digest)): &(usize, &(Case, u32))| {
+            vectors::digest_of(|function| mutant.run(function, case)) != *digest
+        };
+        if !mutant.is_of_listing() {
+            if let Some((k, (case, _))) = self.vectors.iter().enumerate().find(differs) {
+                let text = format!("case {k}, {}: {}", described(case), difference(mutant, case));
+                return Some(Seen { by_vectors: true, text });
+            }
+        }
+        let differs =
+            |(_, input): &&(&str, Vec<u8>)| mutant.listing(input) != rules::paper().listing(input);
+        let (name, _) = self.listings.iter().find(differs)?;
+        Some(Seen { by_vectors: false, text: format!("listing {name}") })
+    }
+}
+
+/// What the change gives for the case, where it isn't what document 01 gives.
+fn difference(mutant: &Mutant, case: &Case) -> String {
+    let of = |function| {
+        let expected = outcome::of(function, rules::paper(), case);
+        outcome::difference(function, &mutant.run(function, case), &expected)
+    };
+    of(Function::Reader).or_else(|| of(Function::Normaliser)).unwrap_or_default()
+}
+
+/// The case's class and the first words of its list.
+pub fn described(case: &Case) -> String {
+    const SHOWN: usize = 5;
+    let mut text = format!("{} [", case.class);
+    let words: Vec<String> = case.list.iter().take(SHOWN).map(|w| format!("{w:08X}")).collect();
+    text += &words.join(" ");
+    match case.list.len() {
+        0..=SHOWN => text + "]",
+        more => text + &format!(" ..{more} words]"),
+    }
+}
