@@ -50,7 +50,7 @@ fn inputs() -> Vec<(&'static str, Vec<u8>)> {
         ("empty", vec![]),
         ("guide", bytes(&[paper::GUIDE_FETCH, paper::GUIDE_PUT].concat())),
         ("settings", bytes(&[0x02ABCDEF, 0x26000001, 0x30000002, 0x31000003])),
-        ("high-digits", bytes(&[0x00ABCDEF, 0x14FEDCBA, 0x803FFFFF, 0x0FFFFFFF, 0])),
+        ("high-digits", bytes(&[0x00ABCDEF, 0x0CFEDCBA, 0x803FFFFF, 0x0FFFFFFF, 0])),
         ("long-load", bytes(&[&[0x401001FF, 0, 1, 2][..], &[0x06000000; 4 * 511]].concat())),
         ("refused-1-next-word", flushes(MAX_LIST_WORDS + 1)),
         ("refused-1-next-byte", with_more(flushes(MAX_LIST_WORDS), 1)),

@@ -150,7 +150,8 @@ impl Rules {
                 Err(refusal) => return (found, Some(refusal)),
             };
             at += command.words.len();
-            after_base = command.row.flip == Flip::SurfaceBase;
+            let lasts = after_base && self.base_lasts == BaseLasts::AllCommands;
+            after_base = lasts || command.row.flip == Flip::SurfaceBase;
             found.push(command);
         }
         let refused_end = after_base && !self.base_may_end_list;
@@ -172,10 +173,17 @@ impl Rules {
     }
 
     /// Verdict 11, on what is needed and what there is.
-    fn fits(&self, list: &[u32], image: &[u32], needed: usize, room: usize) -> Result<(), Refusal> {
+    fn fits(
+        &self,
+        checks: &[Check],
+        list: &[u32],
+        image: &[u32],
+        needed: usize,
+        room: usize,
+    ) -> Result<(), Refusal> {
         let (list_words, image_words) = (list.len(), image.len());
         let facts = Facts { list_words, image_words, needed, room, ..Facts::default() };
-        self.pass(&self.after_commands, &OTHER_ID, 0, &facts)
+        self.pass(checks, &OTHER_ID, 0, &facts)
     }
 
     fn accepted(&self, list: &[u32], commands: &[Command], words: usize) -> Answer {
@@ -214,7 +222,13 @@ impl Rules {
     ) -> Result<Answer, Refusal> {
         let commands = self.checked(list, image)?;
         let found = self.records(&commands);
-        self.fits(list, image, found.len(), self.record_room(records.len()))?;
+        self.fits(
+            &self.room_for_records,
+            list,
+            image,
+            found.len(),
+            self.record_room(records.len()),
+        )?;
         for command in &commands {
             self.apply(command, image);
         }
@@ -270,7 +284,7 @@ impl Rules {
     ) -> Result<Answer, Refusal> {
         let commands = self.checked(list, image)?;
         let form = self.normal_form(&commands, image);
-        self.fits(list, image, form.len(), out.len())?;
+        self.fits(&self.room_for_form, list, image, form.len(), out.len())?;
         put(out, &form);
         Ok(self.accepted(list, &commands, form.len()))
     }

@@ -112,6 +112,12 @@ impl Vary for u32 {
     }
 }
 
+impl Vary for i32 {
+    fn variants(&self) -> Variants<Self> {
+        [self - 1, self + 1].into_iter().map(|n| (format!("{n}, not {self}"), n)).collect()
+    }
+}
+
 impl Vary for usize {
     fn variants(&self) -> Variants<Self> {
         let near = (*self as u32).variants().into_iter();

@@ -8,12 +8,12 @@ use crate::outcome::{self, Function, Outcome};
 use crate::prng::Prng;
 use crate::rules;
 
-/// The fixed sample and enough random cases to make this many.
-const CASES: usize = 4500;
+/// Stored after the fixed sample.
+const RANDOM_CASES: usize = 1500;
 
 pub fn stored_cases() -> Vec<Case> {
     let mut cases = lists::fixed_sample();
-    for number in cases.len()..CASES {
+    for number in 0..RANDOM_CASES {
         cases.push(lists::random_case(&mut Prng::new(6, number as u64), Purpose::Store));
     }
     cases
@@ -50,12 +50,7 @@ mod tests {
 
     #[test]
     fn file_is_small() {
-        assert!(4 * words().len() < 400_000);
-    }
-
-    #[test]
-    fn a_good_part_is_random() {
-        assert!(lists::fixed_sample().len() + 1000 < CASES);
+        assert!(4 * words().len() < 524_288);
     }
 
     #[test]

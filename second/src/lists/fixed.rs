@@ -15,38 +15,49 @@ const TIMER: u32 = 0x02000000;
 struct Set {
     class: &'static str,
     lists: Vec<Vec<u32>>,
-    /// One list in this many is stored in the vectors file; none for 0.
-    stored_one_in: usize,
+    stored: Store,
+}
+
+/// What of a set goes into the vectors file.
+#[derive(Clone, Copy, PartialEq, Eq)]
+enum Store {
+    Nothing,
+    /// One short list in this many.
+    OneIn(usize),
+    EveryShort,
+    Every,
 }
 
 fn sets() -> Vec<Set> {
-    let set = |class, lists, stored_one_in| Set { class, lists, stored_one_in };
+    use Store::{Every, EveryShort, Nothing, OneIn};
+    let set = |class, lists, stored| Set { class, lists, stored };
     vec![
-        set("cases of 01 and the guide", papers(), 1),
-        set("every id alone", every_id_alone(), 1),
-        set("every id", every_id(), 16),
-        set("every undefined bit", every_bit(false), 1),
-        set("every defined bit", every_bit(true), 4),
-        set("every bit, not first", every_bit_not_first(), 40),
-        set("every bit of a load", every_load_bit(), 4),
-        set("all defined bits", all_defined_bits(), 1),
-        set("load codes", load_codes(), 1),
-        set("load lengths", load_lengths(), 1),
-        set("plane ranges", plane_ranges(), 1),
-        set("payload cut", payload_cuts(), 1),
-        set("payload like commands", payload_like_commands(), 12),
-        set("page thresholds at the limits", clip_limits(), 1),
-        set("page thresholds, all", clip_table(), 16),
-        set("raster bits", raster_bits(), 1),
-        set("primitive words", primitive_words(), 1),
-        set("after a surface base", after_base(), 1),
-        set("every id after a surface base", every_id_after_base(), 4),
-        set("group cut", group_cuts(), 1),
-        set("two faults", two_faults(), 1),
-        set("one setting around work", setting_around_work(), 8),
-        set("settings in any order", setting_orders(), 1),
-        set("sizes", sizes(), 1),
-        set("other sizes", other_sizes(), 0),
+        set("cases of 01 and the guide", papers(), Every),
+        set("every id alone", every_id_alone(), Every),
+        set("every id", every_id(), OneIn(16)),
+        set("every undefined bit", every_bit(false), Every),
+        set("every defined bit", every_bit(true), Every),
+        set("every bit, not first", every_bit_not_first(), OneIn(40)),
+        set("every bit of a load", every_load_bit(), Every),
+        set("all defined bits", all_defined_bits(), Every),
+        set("load codes", load_codes(), Every),
+        set("load lengths", load_lengths(), EveryShort),
+        set("plane ranges", plane_ranges(), EveryShort),
+        set("too many planes, all there", planes_with_payload(), Every),
+        set("payload cut", payload_cuts(), Every),
+        set("payload like commands", payload_like_commands(), OneIn(12)),
+        set("page thresholds at the limits", clip_limits(), Every),
+        set("page thresholds, all", clip_table(), OneIn(16)),
+        set("raster bits", raster_bits(), Every),
+        set("primitive words", primitive_words(), Every),
+        set("after a surface base", after_base(), Every),
+        set("every id after a surface base", every_id_after_base(), OneIn(4)),
+        set("group cut", group_cuts(), Every),
+        set("two faults", two_faults(), Every),
+        set("one setting around work", setting_around_work(), OneIn(8)),
+        set("settings in any order", setting_orders(), EveryShort),
+        set("sizes", sizes(), Every),
+        set("other sizes", other_sizes(), Nothing),
     ]
 }
 
@@ -67,7 +78,7 @@ pub fn fixed_cases() -> Vec<Case> {
 
 /// Cases with surroundings of their own, all in the vectors file.
 fn stored_whole() -> Vec<Case> {
-    [equal_settings(), image_lengths(), buffer_lengths()].concat()
+    [equal_settings(), defined_part(), image_lengths(), buffer_lengths()].concat()
 }
 
 /// A sample of the sets that fits a small file. Sets that are stored whole get a zero image and
@@ -76,16 +87,23 @@ pub fn fixed_sample() -> Vec<Case> {
     const LONGEST: usize = 48;
     let mut rng = Prng::new(2, 0);
     let mut cases = Vec::new();
-    for set in sets().into_iter().filter(|set| set.stored_one_in > 0) {
-        for list in set.lists {
-            let short = list.len() <= LONGEST || set.class == "sizes";
-            if short && rng.once_in(set.stored_one_in) {
-                cases.push(if set.stored_one_in == 1 || rng.once_in(2) {
-                    plain(set.class, list, Purpose::Store)
-                } else {
-                    with_surroundings(&mut rng, set.class, list, Purpose::Store)
-                });
+    for Set { class, lists, stored } in sets() {
+        for list in lists {
+            let short = list.len() <= LONGEST;
+            let wanted = match stored {
+                Store::Nothing => false,
+                Store::OneIn(n) => short && rng.once_in(n),
+                Store::EveryShort => short,
+                Store::Every => true,
+            };
+            if !wanted {
+                continue;
             }
+            let sampled = matches!(stored, Store::OneIn(_));
+            cases.push(match sampled && rng.once_in(2) {
+                true => with_surroundings(&mut rng, class, list, Purpose::Store),
+                false => plain(class, list, Purpose::Store),
+            });
         }
     }
     cases.extend(stored_whole());
@@ -231,6 +249,16 @@ fn plane_ranges() -> Vec<Vec<u32>> {
         }
     }
     lists
+}
+
+/// Each bit of a length over the limit, with the whole payload: only the plane range refuses them.
+fn planes_with_payload() -> Vec<Vec<u32>> {
+    let planes = |length: u32| {
+        let mut list = vec![load_word(false, 5, 0, length), 0, 0, 0];
+        list.resize(4 + 4 * length as usize, 0);
+        list
+    };
+    (4..9).map(|bit| planes(1 << bit)).collect()
 }
 
 fn payload_cuts() -> Vec<Vec<u32>> {
@@ -568,11 +596,12 @@ fn image_lengths() -> Vec<Case> {
             cases.push(Case { image, records_len: room, out_len: room, ..case });
         }
     }
-    // Too many words, ahead of the image.
-    for len in [0, 255] {
+    // Too many words, ahead of the image and of the room.
+    for (len, room) in [(255, 8), (256, 0)] {
         let list = timers(MAX_LIST_WORDS + 1);
         let case = plain("image lengths", list, Purpose::Store);
-        cases.push(Case { image: Image::Seeded { seed: 1, len }, ..case });
+        let image = Image::Seeded { seed: 1, len };
+        cases.push(Case { image, records_len: room, out_len: room, ..case });
     }
     cases
 }
@@ -609,6 +638,24 @@ fn equal_settings() -> Vec<Case> {
         }
     }
     cases
+}
+
+/// Settings to what the masks leave of the image's words, where that is accepted.
+fn defined_part() -> Vec<Case> {
+    let image = Image::Seeded { seed: 1, len: IMAGE_WORDS };
+    let words = image.words();
+    let list = |row: &'static Row| {
+        let of_image = row.masks.iter().zip(&words[row.id as usize..]);
+        let mut list: Vec<u32> = of_image.map(|(mask, word)| word & mask.bits).collect();
+        list[0] |= row.id << 24;
+        list
+    };
+    let lists = rows(Kind::Setting).map(list).filter(|list| rules::paper().commands(list).is_ok());
+    let case = |list| Case {
+        image: image.clone(),
+        ..plain("the image's defined part", list, Purpose::Store)
+    };
+    lists.map(case).collect()
 }
 
 /// A seed in whose image the setting's words are those of a valid command, and that command.

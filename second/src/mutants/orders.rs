@@ -17,6 +17,7 @@ pub fn all() -> Vec<Mutant> {
             no_room_without(k, f, case, outcome)
         }));
     }
+    all.push(Mutant::of_outcome("order: the empty list refused".into(), empty_refused));
     all.push(Mutant::of_listing("order: verdict 12 behind the commands", part_word_last));
     all
 }
@@ -50,7 +51,8 @@ fn moved_behind_commands() -> Vec<Mutant> {
         let mut rules = paper.clone();
         let check = rules.before_commands.remove(k);
         let name = format!("order: verdict {} behind the commands", check.verdict);
-        rules.after_commands.insert(0, check);
+        rules.room_for_records.insert(0, check.clone());
+        rules.room_for_form.insert(0, check);
         Mutant::of_rules(name, rules)
     };
     (0..paper.before_commands.len()).map(moved).collect()
@@ -130,6 +132,14 @@ fn no_room_without(k: usize, function: Function, case: &Case, outcome: Outcome) 
     let other = outcome::of(function, &rules, &case);
     match other.answer[0] {
         11 => Outcome { answer: other.answer, ..outcome },
+        _ => outcome,
+    }
+}
+
+/// The empty list has too few words for a command.
+fn empty_refused(_: Function, case: &Case, outcome: Outcome) -> Outcome {
+    match outcome.answer[0] {
+        0 if case.list.is_empty() => refused_with(Refusal { verdict: 5, position: 0 }, outcome),
         _ => outcome,
     }
 }

@@ -17,8 +17,6 @@ const RASTER: &[u32] = &[0xE7FFFF, 0x00FFFFFF, 0x003FFFFF, 0x00FFFFFF];
 const DEPTH: &[u32] = &[0xFFFFFF, 0x00FFFFFF, 0x0FFF0FFF, 0x0FFF0FFF];
 const LOD_BIAS: &[u32] = &[0x000000, 0xFFFFFFFF, 0xFFFFFFFF, 0xFFFFFFFF];
 
-const LEGAL_CODES: [u32; 4] = [0, 1, 2, 5];
-
 parts! {
     /// Fields that the papers name, and the image word of every BEGIN. Several rules use some.
     pub struct Terms {
@@ -78,10 +76,12 @@ impl Rules {
             table: Table(table(terms)),
             before_commands: before_commands(),
             each_command: each_command(),
-            after_commands: after_commands(),
+            room_for_records: room(),
+            room_for_form: room(),
             // "after a surface base command (21, 23 or 25) the list ends, or the next command is a
             // BEGIN"
             base_may_end_list: true,
+            base_lasts: BaseLasts::OneCommand,
             records: records(terms),
             form: form(),
             listing: listing(),
@@ -145,7 +145,7 @@ fn setting(id: u32, masks: &[u32]) -> Row {
 
 /// "The group is followed by length groups of four words."
 fn load(id: u32, terms: &Terms) -> Row {
-    let payload = Payload { groups: terms.load_length, group_words: 4 };
+    let payload = Payload { groups: terms.load_length, more_groups: 0, group_words: 4 };
     Row { payload: Some(payload), faults: load_faults(terms), ..work(id, LOAD) }
 }
 
@@ -159,16 +159,19 @@ fn clash(word: usize, test: Test) -> Fault {
 
 fn load_faults(terms: &Terms) -> Vec<Fault> {
     let code = terms.load_code;
+    // A mask for each legal code, and one for the others.
     let must_be_zero = |word: usize, codes: &[u32]| {
-        let mask = |c| Mask { bits: if codes.contains(&c) { !0 } else { 0 }, width: 32 };
-        let masks = LEGAL_CODES.iter().map(|&c| (c, mask(c))).collect();
-        illegal(word, Value::Bits { word, key: code, masks }.is_not(0))
+        let masks = [vec![0], vec![1], vec![2], vec![5], vec![3, 4, 6, 7]].map(|of| {
+            let zero = of.iter().all(|code| codes.contains(code));
+            (of, Mask { bits: if zero { !0 } else { 0 }, width: 32 })
+        });
+        illegal(word, Value::Bits { word, key: code, masks: masks.to_vec() }.is_not(0))
     };
     vec![
         // "3, 4, 6 and 7 are illegal"
         illegal(0, code.one_of(&[3, 4, 6, 7], 8)),
         // "The second word is zero unless the code is 2."
-        must_be_zero(1, &[0, 1, 5]),
+        must_be_zero(1, &[0, 1, 3, 4, 5, 6, 7]),
         // "the third and fourth are zero for codes 0 and 5"
         must_be_zero(2, &[0, 5]),
         must_be_zero(3, &[0, 5]),
@@ -243,7 +246,7 @@ fn each_command() -> Vec<Check> {
 }
 
 /// "record or output buffer too small"
-fn after_commands() -> Vec<Check> {
+fn room() -> Vec<Check> {
     vec![check(11, Quantity::Needed.more_than(Quantity::Room), Position::ListLength)]
 }
 

@@ -87,11 +87,14 @@ impl Rules {
 
 /// At least one image word of the setting differs.
 fn differs(row: &Row, building: &Building, from: ComparedWith) -> bool {
+    if from == ComparedWith::Nothing {
+        return true;
+    }
     let other = |k: usize| match from {
         ComparedWith::Built => building.built[k],
         ComparedWith::Start => building.start[k],
         ComparedWith::LastWork => building.last_work[k],
-        ComparedWith::Zeros => 0,
+        ComparedWith::Zeros | ComparedWith::Nothing => 0,
     };
     let first = row.id as usize;
     let compared = (0..row.compared.width as usize).filter(|k| row.compared.bits >> k & 1 == 1);

@@ -1,5 +1,7 @@
 //! The language in which `document` states the rules: fields of words, values, tests.
 
+use crate::vary::choices;
+
 /// Bits of a word of a command: `mask` counts from bit `low`.
 #[derive(Clone, Copy, Debug, PartialEq, Eq)]
 pub struct Field {
@@ -74,46 +76,36 @@ impl Set {
     }
 }
 
-/// Numbers known where a rule is tested, beside the command's own words.
-#[derive(Clone, Copy, Debug, PartialEq, Eq)]
-pub enum Quantity {
-    ListWords,
-    ImageWords,
-    /// From the command's first word to the list's end.
-    WordsLeft,
-    /// The command's words without payload.
-    OwnWords,
-    /// The command's words with payload.
-    Length,
-    /// 1 where the id is in the table, or is 03 or 04.
-    Known,
-    OnlyThroughPci,
-    AfterBase,
-    IsBegin,
-    /// Records or words to be written, and how many fit.
-    Needed,
-    Room,
-    InputBytes,
-    /// Input bytes behind the last whole word.
-    SpareBytes,
+choices! {
+    /// Numbers known where a rule is tested, beside the command's own words; see `Facts`.
+    pub enum Quantity {
+        ListWords, ImageWords, WordsLeft, OwnWords, Length, Known, OnlyThroughPci, AfterBase,
+        IsBegin, Needed, Room, InputBytes, SpareBytes
+    }
 }
 
 /// What a test can look at. Numbers that mean nothing at its place are zero.
 #[derive(Clone, Copy, Default)]
 pub struct Facts<'a> {
+    /// The command's own words, as far as they are there.
     pub words: &'a [u32],
     pub list_words: usize,
     pub image_words: usize,
+    /// From the command's first word to the list's end.
     pub words_left: usize,
+    /// The command's words without payload, and with it.
     pub own_words: usize,
     pub length: usize,
+    /// The id is in the table, or is 03 or 04.
     pub known: bool,
     pub only_through_pci: bool,
     pub after_base: bool,
     pub is_begin: bool,
+    /// Records or words to be written, and how many fit.
     pub needed: usize,
     pub room: usize,
     pub input_bytes: usize,
+    /// Input bytes behind the last whole word.
     pub spare_bytes: usize,
 }
 
@@ -150,7 +142,7 @@ pub enum Value {
     Bits {
         word: usize,
         key: Field,
-        masks: Vec<(u32, Mask)>,
+        masks: Vec<(Vec<u32>, Mask)>,
     },
     Quantity(Quantity),
 }
@@ -166,7 +158,7 @@ impl Value {
             }
             Value::Bits { word, key, masks } => {
                 let key = key.of(facts.words);
-                let mask = masks.iter().find(|(value, _)| *value == key);
+                let mask = masks.iter().find(|(values, _)| values.contains(&key));
                 mask.map_or(0, |(_, mask)| Field::word(*word).of(facts.words) & mask.bits)
             }
             Value::Quantity(quantity) => facts.number(*quantity),

@@ -17,8 +17,10 @@ parts! {
         /// Refusals of the whole list, of each command, and of the room for the result.
         pub before_commands: Vec<Check>,
         pub each_command: Vec<Check>,
-        pub after_commands: Vec<Check>,
+        pub room_for_records: Vec<Check>,
+        pub room_for_form: Vec<Check>,
         pub base_may_end_list: bool,
+        pub base_lasts: BaseLasts,
         pub records: Records,
         pub form: Form,
         pub listing: Listing,
@@ -36,6 +38,11 @@ choices! {
 choices! {
     /// What a command is to the rule on flips.
     pub enum Flip { Neither, SurfaceBase, Begin }
+}
+
+choices! {
+    /// The commands to which a surface base is the one before.
+    pub enum BaseLasts { OneCommand, AllCommands }
 }
 
 /// What a command puts in the image, and from which word on.
@@ -87,8 +94,8 @@ impl Row {
 
     /// The words of the command with its payload, by its own words.
     pub fn length(&self, words: &[u32]) -> usize {
-        let payload = self.payload.map_or(0, |p| p.group_words * p.groups.of(words) as usize);
-        self.own_words() + payload
+        let groups = |p: Payload| p.groups.of(words).saturating_add_signed(p.more_groups) as usize;
+        self.own_words() + self.payload.map_or(0, |p| p.group_words * groups(p))
     }
 
     /// The lowest word with a fault of this kind.
@@ -100,7 +107,9 @@ impl Row {
 
 #[derive(Clone, Copy, Debug, PartialEq, Eq)]
 pub struct Payload {
+    /// As many groups as the field says.
     pub groups: Field,
+    pub more_groups: i32,
     pub group_words: usize,
 }
 
@@ -203,7 +212,7 @@ choices! {
 
 choices! {
     /// The image from which a setting differs.
-    pub enum ComparedWith { Built, Start, LastWork, Zeros }
+    pub enum ComparedWith { Built, Start, LastWork, Zeros, Nothing }
 }
 
 choices! {

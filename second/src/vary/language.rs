@@ -3,32 +3,31 @@
 use super::{within, Variants, Vary};
 use crate::rules::{Comparison, Field, Mask, Set, Test, Value};
 
-/// Each bit left out, one bit more at either end, all bits moved, another word.
+/// Each bit left out, each other first or last bit, all bits moved by one, another word.
 impl Vary for Field {
     fn variants(&self) -> Variants<Self> {
         let Field { word, low, mask } = *self;
         let high = low + 31 - mask.leading_zeros();
         let mut all = Vec::new();
-        for bit in low..=high {
+        for bit in low + 1..high {
             let mask = mask & !(1 << (bit - low));
             all.push((format!("without bit {bit}"), Field { mask, ..*self }));
         }
-        if high < 31 {
-            let wider = Field { mask: mask << 1 | 1, ..*self };
-            all.push((format!("with bit {}", high + 1), wider));
-            all.push(("one bit higher".into(), Field { low: low + 1, ..*self }));
-        }
-        if low > 0 {
-            let lower = Field { low: low - 1, ..*self };
-            all.push(("one bit lower".into(), lower));
-            all.push((format!("with bit {}", low - 1), Field { mask: mask << 1 | 1, ..lower }));
-        }
-        if low < high {
-            let from_next = Field { low: low + 1, mask: mask >> 1, ..*self };
-            all.push((format!("from bit {}", low + 1), from_next));
+        let mut ranges: Vec<(u32, u32)> = (low..32).map(|high| (high, low)).collect();
+        ranges.extend((0..=high).map(|low| (high, low)));
+        ranges.extend([(high + 1, low + 1), (high.wrapping_sub(1), low.wrapping_sub(1))]);
+        for (other_high, other_low) in ranges {
+            if other_high < 32 && other_low < 32 && (other_high, other_low) != (high, low) {
+                let name = format!("bits {other_high}..{other_low}, not {high}..{low}");
+                all.push((name, Field::bits(word, other_high, other_low)));
+            }
         }
         for (name, word) in word.variants() {
             all.push((format!("word {name}"), Field { word, ..*self }));
+        }
+        // The lowest bit left out, the others where they were.
+        if low < high {
+            all.push((format!("without bit {low}"), Field { mask: mask & !1, ..*self }));
         }
         all
     }
@@ -82,7 +81,7 @@ impl Vary for Value {
             }
             Value::At(field, numbers) => numbers_by_field(field, numbers),
             Value::Bits { word, key, masks } => bits_by_field(*word, key, masks),
-            Value::Quantity(_) => Vec::new(),
+            Value::Quantity(quantity) => within("quantity", quantity, Value::Quantity),
         }
     }
 }
@@ -95,16 +94,22 @@ fn numbers_by_field(field: &Field, numbers: &[u32]) -> Variants<Value> {
             numbers[k] = number;
             Value::At(*field, numbers)
         }));
+        if k > 0 {
+            let mut swapped = numbers.to_vec();
+            swapped.swap(k - 1, k);
+            all.push((format!("{} and {k} swapped", k - 1), Value::At(*field, swapped)));
+        }
     }
     all
 }
 
-fn bits_by_field(word: usize, key: &Field, masks: &[(u32, Mask)]) -> Variants<Value> {
-    let value = |word, key, masks: &[(u32, Mask)]| Value::Bits { word, key, masks: masks.to_vec() };
+fn bits_by_field(word: usize, key: &Field, masks: &[(Vec<u32>, Mask)]) -> Variants<Value> {
+    let value =
+        |word, key, masks: &[(Vec<u32>, Mask)]| Value::Bits { word, key, masks: masks.to_vec() };
     let mut all = within("chosen by", key, |key| value(word, key, masks));
     all.extend(within("word", &word, |word| value(word, *key, masks)));
-    for (k, (number, mask)) in masks.iter().enumerate() {
-        all.extend(within(&format!("for {number}"), mask, |mask| {
+    for (k, (values, mask)) in masks.iter().enumerate() {
+        all.extend(within(&format!("for {values:?}"), mask, |mask| {
             let mut masks = masks.to_vec();
             masks[k].1 = mask;
             value(word, *key, &masks)

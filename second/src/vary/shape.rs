@@ -49,7 +49,7 @@ impl Vary for Row {
             all.push((format!("leaves {leaves:?}"), Row { leaves, ..row() }));
         }
         all.extend(self.payload_variants());
-        all.extend(within("faults", &self.faults, |faults| Row { faults, ..row() }));
+        all.extend(self.fault_variants());
         match self.kind {
             Kind::Work => {
                 let settings_first = !self.settings_first;
@@ -106,16 +106,46 @@ impl Row {
     fn payload_variants(&self) -> Variants<Row> {
         let row = |payload| Row { payload, ..self.clone() };
         let Some(payload) = self.payload else {
-            let like_load = Payload { groups: Field::bits(0, 8, 0), group_words: 4 };
+            let groups = Field::bits(0, 8, 0);
+            let like_load = Payload { groups, more_groups: 0, group_words: 4 };
             return vec![("payload: like a load's".into(), row(Some(like_load)))];
         };
-        let Payload { groups, group_words } = payload;
-        let mut all =
-            within("payload groups", &groups, |groups| row(Some(Payload { groups, ..payload })));
-        all.extend(within("payload group words", &group_words, |group_words| {
-            row(Some(Payload { group_words, ..payload }))
-        }));
+        let mut all = within("payload", &payload, |payload| row(Some(payload)));
         all.push(("payload: none".into(), row(None)));
+        all
+    }
+
+    /// Each fault changed or left out, each two neighbours of one kind swapped.
+    fn fault_variants(&self) -> Variants<Row> {
+        let row = |faults| Row { faults, ..self.clone() };
+        let faults = element_variants(&self.faults).into_iter();
+        let mut all: Variants<Row> = faults.map(|(name, faults)| (name, row(faults))).collect();
+        for (k, fault) in self.faults.iter().enumerate() {
+            let mut less = self.faults.clone();
+            less.remove(k);
+            all.push((format!("{}: left out", fault.label(k)), row(less)));
+            if self.faults.get(k + 1).is_some_and(|next| next.kind == fault.kind) {
+                let mut swapped = self.faults.clone();
+                swapped.swap(k, k + 1);
+                all.push((format!("{}: behind the next", fault.label(k)), row(swapped)));
+            }
+        }
+        all
+    }
+}
+
+impl Vary for Payload {
+    fn variants(&self) -> Variants<Self> {
+        let Payload { groups, more_groups, group_words } = *self;
+        let mut all = within("groups", &groups, |groups| Payload { groups, ..*self });
+        all.extend(within("more groups", &more_groups, |more_groups| Payload {
+            more_groups,
+            ..*self
+        }));
+        all.extend(within("words of a group", &group_words, |group_words| Payload {
+            group_words,
+            ..*self
+        }));
         all
     }
 }
@@ -129,6 +159,10 @@ impl Vary for Fault {
             all.extend(within("word", &self.word, |word| Fault { word, ..self.clone() }));
         }
         all
+    }
+
+    fn label(&self, number: usize) -> String {
+        format!("fault {number}")
     }
 }
 
@@ -159,7 +193,7 @@ impl Check {
             FirstWord => vec![At(0), ListLength],
             ThatWord => vec![At(0), FirstWord, ListLength],
             ListLength => vec![At(0)],
-            WholeWordsRead => vec![At(0), ListLength],
+            WholeWordsRead => vec![At(0)],
         }
     }
 }
