@@ -8,17 +8,27 @@ const VERDICTS: usize = 12;
 
 /// How often each verdict was given.
 #[derive(Default)]
-struct Tally {
+pub struct Tally {
     reader: [u64; VERDICTS],
     normaliser: [u64; VERDICTS],
 }
 
 impl Tally {
-    fn print(&self) {
-        println!("verdict     reader normaliser");
-        for verdict in 0..VERDICTS {
-            println!("{verdict:7} {:10} {:10}", self.reader[verdict], self.normaliser[verdict]);
+    pub fn add(&mut self, case: &Case) {
+        self.reader[outcome::read(rules::paper(), case).answer[0] as usize] += 1;
+        self.normaliser[outcome::normalise(rules::paper(), case).answer[0] as usize] += 1;
+    }
+
+    /// A title and a line for each verdict, with numbers of at least this width.
+    pub fn lines(&self, width: usize) -> String {
+        let first = width.min(7);
+        let mut text =
+            format!("{:>first$} {:>width$} {:>width$}\n", "verdict", "reader", "normaliser");
+        for (verdict, (reader, normaliser)) in self.reader.iter().zip(&self.normaliser).enumerate()
+        {
+            text += &format!("{verdict:first$} {reader:width$} {normaliser:width$}\n");
         }
+        text
     }
 }
 
@@ -29,11 +39,10 @@ pub fn count(cases: usize, seed: u64) {
     let mut words = 0;
     for index in 0..cases {
         let case = lists::case(&fixed, index, seed);
-        tally.reader[outcome::read(rules::paper(), &case).answer[0] as usize] += 1;
-        tally.normaliser[outcome::normalise(rules::paper(), &case).answer[0] as usize] += 1;
+        tally.add(&case);
         words += case.list.len();
     }
-    tally.print();
+    print!("{}", tally.lines(10));
     println!("{cases} lists, {} of them fixed, {words} words", fixed.len().min(cases));
 }
 
@@ -108,7 +117,7 @@ mod with_proved {
                 found.iter().for_each(|line| println!("  {line}"));
             }
         }
-        tally.print();
+        print!("{}", tally.lines(10));
         println!("{cases} lists, {} of them fixed", fixed.len().min(cases));
         println!("{differing} differences");
         differing == 0

@@ -26,7 +26,7 @@ usage: second self-test          check the rules against the paper's cases and d
        second case K [SEED]      print case K and what the rules give for it
        second mutants FOLDER     show which stored case sees each change of the rules; the
                                  crates' stored files are in FOLDER
-       second vectors            write the file of cases and digests to standard output
+       second vectors-crate FOLDER    write stdin and stdout of the crate `vectors`
        second listings FOLDER    write inputs and outputs of the listing program
        second listings-crate FOLDER   write stdin and stdout of the crate `listings`
        second listing            print the listing of standard input
@@ -49,7 +49,7 @@ fn main() -> ExitCode {
 fn run(words: &[&str]) -> io::Result<ExitCode> {
     match words {
         ["self-test"] => self_test(),
-        ["vectors"] => io::stdout().write_all(&listings::bytes(&vectors::words()))?,
+        ["vectors-crate", folder] => vectors::write_crate(Path::new(folder))?,
         ["mutants", crates] => {
             if !mutants::report(Path::new(crates))? {
                 return Ok(ExitCode::FAILURE);

@@ -33,8 +33,10 @@ pub fn report(crates: &Path) -> io::Result<bool> {
         }
     }
     println!("\nNo list can show:");
-    for (mutant, reason) in &named {
-        println!("  {}: {reason}", mutant.name);
+    named.sort_by_key(|(_, reason)| *reason);
+    for of_reason in named.chunk_by(|a, b| a.1 == b.1) {
+        println!("{} since {}", of_reason.len(), of_reason[0].1);
+        of_reason.iter().for_each(|(mutant, _)| println!("    {}", mutant.name));
     }
     let named: Vec<Mutant> = named.into_iter().map(|(mutant, _)| mutant).collect();
     tally.named = named.len();

@@ -3,10 +3,15 @@
 //! For each case: list length, image seed, image length, record buffer length, output buffer
 //! length, digest, then the list.
 
+use crate::compare::Tally;
+use crate::listings::bytes;
 use crate::lists::{self, Case, Image, Purpose};
 use crate::outcome::{self, Function, Outcome};
 use crate::prng::Prng;
 use crate::rules;
+use std::fs;
+use std::io;
+use std::path::Path;
 
 /// Stored after the fixed sample.
 const RANDOM_CASES: usize = 1500;
@@ -19,8 +24,21 @@ pub fn stored_cases() -> Vec<Case> {
     cases
 }
 
-pub fn words() -> Vec<u32> {
-    stored_cases().iter().flat_map(case_words).collect()
+/// Writes stdin and stdout of the test program `vectors`.
+pub fn write_crate(folder: &Path) -> io::Result<()> {
+    let (stdin, stdout) = crate_files();
+    fs::write(folder.join("stdin"), stdin)?;
+    fs::write(folder.join("stdout"), stdout)
+}
+
+/// The cases with their digests, and the counts of verdicts.
+pub fn crate_files() -> (Vec<u8>, String) {
+    let cases = stored_cases();
+    let mut tally = Tally::default();
+    cases.iter().for_each(|case| tally.add(case));
+    let words: Vec<u32> = cases.iter().flat_map(case_words).collect();
+    let text = format!("vectors {}\ndifferences 0\n{}", cases.len(), tally.lines(0));
+    (bytes(&words), text)
 }
 
 fn case_words(case: &Case) -> Vec<u32> {
@@ -50,7 +68,7 @@ mod tests {
 
     #[test]
     fn file_is_small() {
-        assert!(4 * words().len() < 524_288);
+        assert!(crate_files().0.len() < 524_288);
     }
 
     #[test]

@@ -234,7 +234,7 @@ fn load_lengths() -> Vec<Vec<u32>> {
 
 fn plane_ranges() -> Vec<Vec<u32>> {
     let mut lists = Vec::new();
-    for offset in [0, 1, 2, 4, 6, 7, 8, 9, 256, 511] {
+    for offset in [0, 1, 2, 4, 6, 7, 8, 9, 10, 12, 16, 32, 64, 128, 256, 511] {
         for length in [0, 1, 2, 4, 6, 7, 8, 9] {
             let near_limit = (7..=9).contains(&(offset + length)) || offset + length > 255;
             if length > 2 && !near_limit {

@@ -3,7 +3,7 @@
 use super::changes::Mutant;
 use crate::lists::Case;
 use crate::outcome::{Function, Outcome};
-use crate::rules::{self, put, IMAGE_WORDS};
+use crate::rules::{self, put, Kind, IMAGE_WORDS, RECORD_WORDS};
 
 const FUNCTIONS: [(Function, &str); 2] =
     [(Function::Reader, "reader"), (Function::Normaliser, "normaliser")];
@@ -30,6 +30,8 @@ pub fn all() -> Vec<Mutant> {
         }
     }
     all.extend(image_words());
+    all.extend(words_by_id());
+    all.push(applied_from_the_end());
     all.extend(listings());
     all
 }
@@ -162,6 +164,53 @@ fn image_words() -> Vec<Mutant> {
         at.change(&format!("image word {k:02X} changed"), move |_, outcome| outcome.image[k] ^= 1)
     };
     (0..IMAGE_WORDS).map(changed).collect()
+}
+
+/// Each word of the record or of the written setting of one id changed.
+fn words_by_id() -> Vec<Mutant> {
+    let mut all = Vec::new();
+    for row in &rules::paper().table.0 {
+        let id = row.id;
+        let (function, what, words) = match row.kind {
+            Kind::Work => (Function::Reader, "record", RECORD_WORDS),
+            Kind::Setting => (Function::Normaliser, "setting in the form", row.own_words()),
+        };
+        for k in 0..words {
+            let at = Place { function, verdict: 0, name: format!("{what} of {id:02X}") };
+            all.push(at.change(&format!("word {k} changed"), move |_, outcome| {
+                let written = &outcome.buffer[..outcome.answer[WORDS] as usize];
+                for position in places_of(id, function, written) {
+                    outcome.buffer[position + k] ^= 1;
+                }
+            }));
+        }
+    }
+    all
+}
+
+/// Where the records, or the commands of a form, with this id begin.
+fn places_of(id: u32, function: Function, written: &[u32]) -> Vec<usize> {
+    match function {
+        Function::Reader => {
+            let records = written.chunks_exact(RECORD_WORDS).enumerate();
+            records.filter(|(_, record)| record[0] == id).map(|(n, _)| RECORD_WORDS * n).collect()
+        }
+        Function::Normaliser => {
+            let commands = rules::paper().walk(written).0;
+            commands.iter().filter(|c| c.row.id == id).map(|c| c.position).collect()
+        }
+    }
+}
+
+/// Of several commands that set a word, the first decides.
+fn applied_from_the_end() -> Mutant {
+    let at = Place { function: Function::Reader, verdict: 0, name: "reader, verdict 0".into() };
+    at.change("commands applied from the list's end", |case, outcome| {
+        outcome.image = case.image.words();
+        for command in rules::paper().walk(&case.list).0.iter().rev() {
+            rules::paper().apply(command, &mut outcome.image);
+        }
+    })
 }
 
 fn listings() -> Vec<Mutant> {

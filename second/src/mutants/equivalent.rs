@@ -2,24 +2,168 @@
 
 use super::changes::Mutant;
 
-/// Names, in which `*` stands for any text, and the reason for all that have such a name.
-const REASONS: &[(&str, &str)] = &[];
+/// A reason and the changes it is for; `*` in a name stands for any text.
+type Reason = (&'static str, &'static [&'static str]);
+
+const REASONS: &[Reason] = &[
+    (
+        "bit 9 of a load is undefined: 6 is given before",
+        &[
+            "table: 40: payload: groups: bits 9..0, *",
+            "table: 40: fault 5: test: second: left: second: bits 9..0, *",
+            "everywhere: load length: bits 9..0, *",
+        ],
+    ),
+    (
+        "bit 19 of a load is undefined: 6 is given before",
+        &[
+            "table: 40: fault 5: test: second: left: first: bits 19..10, *",
+            "everywhere: load offset: bits 19..10, *",
+        ],
+    ),
+    (
+        "bits 24 to 29 of a load's first word are of its id, 40 hex, and are zero",
+        &[
+            "table: 40: fault 4: test: first: left: field: bits 2*..23, *",
+            "everywhere: load converts: bits 2*..23, *",
+        ],
+    ),
+    (
+        "bit 22 is set in code 5, to which this rule doesn't apply, and in 4, 6 and 7, which are \
+         refused before",
+        &[
+            "table: 40: fault 4: test: first: left: field: bits 23..22, *",
+            "everywhere: load converts: bits 23..22, *",
+        ],
+    ),
+    (
+        "of the legal codes only 5 is read otherwise, as 1, which has the same rule for this word",
+        &["table: 40: fault 1: test: left: chosen by: bits 21..20, *"],
+    ),
+    (
+        "codes 1 and 5 are read as 0 and 4, which have the same rule for this word",
+        &["table: 40: fault 1: test: left: chosen by: without bit 20"],
+    ),
+    (
+        "these codes are illegal themselves, in a lower word",
+        &["table: 40: fault *: test: left: for [3, 4, 6, 7]: *"],
+    ),
+    (
+        "only code 7 is read as 5, and 7 is refused before",
+        &[
+            "table: 40: fault 4: test: second: left: field: without bit 21",
+            "table: 40: fault 5: test: first: left: field: without bit 21",
+        ],
+    ),
+    (
+        "codes 6 and 7 are refused before, so that no code is over 5",
+        &[
+            "table: 40: fault 4: test: second: Below, not NotEqual",
+            "table: 40: fault 5: test: first: AtLeast, not Equal",
+        ],
+    ),
+    (
+        "bits 24 to 26 of a primitive's first word are of its id, 48 hex, and are zero",
+        &[
+            "table: 48: fault 0: test: left: field: bits 24..0, *",
+            "table: 48: fault 0: test: left: field: bits 25..0, *",
+            "table: 48: fault 0: test: left: field: bits 26..0, *",
+        ],
+    ),
+    ("a primitive's header is zero: no groups", &["table: 48: payload: like a load's"]),
+    ("this header has no defined bit: no groups", &["table: C4: payload: like a load's"]),
+    (
+        "bits 30 and 31 of this word are undefined: 6 is given before",
+        &[
+            "table: 84: fault 0: test: left: field: bits 3*..28, *",
+            "table: 84: fault 1: test: right: chosen by: bits 3*..28, *",
+            "everywhere: bank: bits 3*..28, *",
+        ],
+    ),
+    (
+        "the bank has two bits: it is never over 3",
+        &["table: 84: fault 0: test: AtLeast, not Equal"],
+    ),
+    (
+        "the stored maximum has four bits: it is never over 15",
+        &["table: 84: fault 1: test: right: for 0: 16, not 15"],
+    ),
+    (
+        "both give 8 at the command's first word",
+        &["table: 40: fault 4: behind the next", "table: 84: fault 1: behind the next"],
+    ),
+    (
+        "no command changes the word behind this setting",
+        &[
+            "table: 02: compared: with bit 1",
+            "table: 26: compared: with bit 1",
+            "table: 31: compared: with bit 1",
+            "table: 90: compared: with bit 4",
+            "table: C4: compared: with bit 4",
+        ],
+    ),
+    (
+        "4 is given for this id whether or not it is in the table",
+        &["table: 03 added *", "table: 04 added *"],
+    ),
+    ("no id is both unknown and 03 or 04", &["each command: verdict 3: behind verdict 4"]),
+    (
+        "an unknown id, 03 and 04 are no groups and have neither masks nor values nor payload",
+        &[
+            "each command: verdict 4: behind verdict 5",
+            "order: verdict 3 behind 5",
+            "order: verdict 3 behind 6",
+            "order: verdict 3 behind 7",
+            "order: verdict 3 behind 8",
+            "order: verdict 3 behind 9",
+            "order: verdict 4 behind 6",
+            "order: verdict 4 behind 7",
+            "order: verdict 4 behind 8",
+            "order: verdict 4 behind 9",
+            "order: verdict 5 before 3",
+        ],
+    ),
+    ("the first command follows nothing", &["order: verdict 10 for all but the first"]),
+    (
+        "at each work command the form brings its settings to the list's, so that both images \
+         agree there",
+        &["form: *: compared with: LastWork"],
+    ),
+    (
+        "no rule reads the image, and the listing doesn't show it",
+        &["listing: starting word: 1, not 0"],
+    ),
+    ("every number has a digit", &["listing: columns: *: least digits: 0, not 1"]),
+];
 
 pub fn reason(name: &str) -> Option<&'static str> {
-    REASONS.iter().find(|(pattern, _)| matches(pattern, name)).map(|(_, reason)| *reason)
+    let given = |(_, names): &&Reason| names.iter().any(|pattern| matches(pattern, name));
+    REASONS.iter().find(given).map(|(reason, _)| *reason)
 }
 
-/// How many of the patterns are the name of none of these.
+/// How many of the names are of none of these.
 pub fn unused(mutants: &[Mutant]) -> usize {
-    let used = |pattern: &str| mutants.iter().any(|mutant| matches(pattern, &mutant.name));
-    REASONS.iter().filter(|(pattern, _)| !used(pattern)).count()
+    let used = |pattern: &&str| mutants.iter().any(|mutant| matches(pattern, &mutant.name));
+    REASONS.iter().flat_map(|(_, names)| *names).filter(|pattern| !used(pattern)).count()
 }
 
 fn matches(pattern: &str, name: &str) -> bool {
     match pattern.split_once('*') {
         None => pattern == name,
-        Some((front, rest)) => name.strip_prefix(front).is_some_and(|name| {
-            name.char_indices().any(|(k, _)| matches(rest, &name[k..])) || rest.is_empty()
-        }),
+        Some((front, "")) => name.starts_with(front),
+        Some((front, rest)) => name
+            .strip_prefix(front)
+            .is_some_and(|name| name.char_indices().any(|(k, _)| matches(rest, &name[k..]))),
+    }
+}
+
+#[cfg(test)]
+mod tests {
+    use super::matches;
+
+    #[test]
+    fn a_star_is_any_text() {
+        assert!(matches("a*c", "abc") && matches("a*c*", "abcd") && matches("*", ""));
+        assert!(!matches("a*c", "abcd") && !matches("a", "ab") && !matches("b*", "ab"));
     }
 }

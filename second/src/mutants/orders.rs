@@ -9,6 +9,7 @@ pub fn all() -> Vec<Mutant> {
     let mut all = moved_in_command();
     all.extend(moved_behind_commands());
     all.extend(checked_in_passes());
+    all.extend(not_of_every_command());
     all.push(Mutant::of_outcome("order: a later command's refusal".into(), later_refusal));
     all.push(Mutant::of_outcome("order: verdict 11 as it is met".into(), no_room_as_met));
     for (k, check) in rules::paper().before_commands.iter().enumerate() {
@@ -73,6 +74,29 @@ fn checked_in_passes() -> Vec<Mutant> {
         })
     };
     (1..checks.len()).map(passes).collect()
+}
+
+/// A check made of the first command alone, or of all but the first.
+fn not_of_every_command() -> Vec<Mutant> {
+    let checks = &rules::paper().each_command;
+    let mut all = Vec::new();
+    for (k, check) in checks.iter().enumerate() {
+        for (first, which) in [(true, "the first command alone"), (false, "all but the first")] {
+            let mut others = checks.clone();
+            others.remove(k);
+            let without = with_each_command(others);
+            let verdict = check.verdict;
+            let name = format!("order: verdict {verdict} for {which}");
+            all.push(Mutant::of_outcome(name, move |function, case, outcome| {
+                let in_first = rules::paper().walk(&case.list).0.is_empty();
+                match outcome.answer[0] == verdict && in_first != first {
+                    true => outcome::of(function, &without, case),
+                    false => outcome,
+                }
+            }));
+        }
+    }
+    all
 }
 
 fn refused_with(refusal: Refusal, outcome: Outcome) -> Outcome {

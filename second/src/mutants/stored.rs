@@ -23,14 +23,16 @@ pub struct Seen {
 impl Stored {
     /// Fails where the files aren't those that this program writes.
     pub fn read(crates: &Path) -> io::Result<Stored> {
-        let stale = |what: &str| io::Error::other(format!("{what} has other cases; write it anew"));
-        let (stdin, stdout) = listings::crate_files();
-        for (name, wanted) in [
-            ("vectors/stdin", listings::bytes(&vectors::words())),
-            ("listings/stdin", stdin),
-            ("listings/stdout", stdout.into_bytes()),
-        ] {
-            if fs::read(crates.join(name))? != wanted {
+        let stale = |what: &str| {
+            io::Error::other(format!("the files of {what} are not those of {what}-crate"))
+        };
+        for (name, (stdin, stdout)) in
+            [("vectors", vectors::crate_files()), ("listings", listings::crate_files())]
+        {
+            let folder = crates.join(name);
+            if fs::read(folder.join("stdin"))? != stdin
+                || fs::read(folder.join("stdout"))? != stdout.as_bytes()
+            {
                 return Err(stale(name));
             }
         }

@@ -31,8 +31,8 @@ impl Field {
     }
 
     pub fn plus(self, other: Field) -> Value {
-        // Two fields of nine bits have a sum of ten.
-        Value::Sum(self, other, Mask { bits: 0x3FF, width: 10 })
+        // All bits count; two fields of nine bits have a sum of ten.
+        Value::Sum(self, other, Mask { bits: !0, width: 10 })
     }
 
     pub fn is(self, number: u32) -> Test {
@@ -56,7 +56,7 @@ impl Field {
     }
 }
 
-/// Some of the lowest `width` bits of a word.
+/// Some bits of a word, of which only the lowest `width` are in question.
 #[derive(Clone, Copy, Debug, PartialEq, Eq)]
 pub struct Mask {
     pub bits: u32,
