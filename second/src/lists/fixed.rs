@@ -598,7 +598,7 @@ fn image_lengths() -> Vec<Case> {
     }
     // Too many words, ahead of the image and of the room.
     for (len, room) in [(255, 8), (256, 0)] {
-        let list = timers(MAX_LIST_WORDS + 1);
+        let list = [&[FLUSH], &timers(MAX_LIST_WORDS)[..]].concat();
         let case = plain("image lengths", list, Purpose::Store);
         let image = Image::Seeded { seed: 1, len };
         cases.push(Case { image, records_len: room, out_len: room, ..case });

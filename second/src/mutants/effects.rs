@@ -3,7 +3,7 @@
 use super::changes::Mutant;
 use crate::lists::Case;
 use crate::outcome::{Function, Outcome};
-use crate::rules::{self, put, Kind, IMAGE_WORDS, RECORD_WORDS};
+use crate::rules::{self, put, Kind, Leaves, Row, IMAGE_WORDS, RECORD_WORDS};
 
 const FUNCTIONS: [(Function, &str); 2] =
     [(Function::Reader, "reader"), (Function::Normaliser, "normaliser")];
@@ -30,7 +30,9 @@ pub fn all() -> Vec<Mutant> {
         }
     }
     all.extend(image_words());
-    all.extend(words_by_id());
+    all.extend(records_by_id());
+    all.extend(settings_by_id());
+    all.extend(image_by_id());
     all.push(applied_from_the_end());
     all.extend(listings());
     all
@@ -53,6 +55,26 @@ impl Place {
                 change(case, &mut outcome);
             }
             outcome
+        })
+    }
+}
+
+impl Place {
+    /// A word changed in what is written for each command of this id.
+    fn change_written(
+        &self,
+        what: &str,
+        id: u32,
+        word: usize,
+        change: impl Fn(u32) -> u32 + 'static,
+    ) -> Mutant {
+        let function = self.function;
+        self.change(what, move |_, outcome| {
+            let written = &outcome.buffer[..outcome.answer[WORDS] as usize];
+            for position in places_of(id, function, written) {
+                let slot = &mut outcome.buffer[position + word];
+                *slot = change(*slot);
+            }
         })
     }
 }
@@ -166,26 +188,71 @@ fn image_words() -> Vec<Mutant> {
     (0..IMAGE_WORDS).map(changed).collect()
 }
 
-/// Each word of the record or of the written setting of one id changed.
-fn words_by_id() -> Vec<Mutant> {
+/// Each number of the record of one id changed, each defined bit of its header lost.
+fn records_by_id() -> Vec<Mutant> {
     let mut all = Vec::new();
-    for row in &rules::paper().table.0 {
-        let id = row.id;
-        let (function, what, words) = match row.kind {
-            Kind::Work => (Function::Reader, "record", RECORD_WORDS),
-            Kind::Setting => (Function::Normaliser, "setting in the form", row.own_words()),
-        };
-        for k in 0..words {
-            let at = Place { function, verdict: 0, name: format!("{what} of {id:02X}") };
-            all.push(at.change(&format!("word {k} changed"), move |_, outcome| {
-                let written = &outcome.buffer[..outcome.answer[WORDS] as usize];
-                for position in places_of(id, function, written) {
-                    outcome.buffer[position + k] ^= 1;
-                }
-            }));
+    for row in table(Kind::Work) {
+        let name = format!("record of {:02X}", row.id);
+        let at = Place { function: Function::Reader, verdict: 0, name };
+        for (k, word) in ["id", "position", "words"].into_iter().enumerate() {
+            all.push(at.change_written(word, row.id, k, |word| word ^ 1));
+        }
+        for bit in defined_bits(row, 0) {
+            let what = format!("header without bit {bit}");
+            all.push(at.change_written(&what, row.id, 3, move |word| word & !(1 << bit)));
         }
     }
     all
+}
+
+/// Each defined bit of each setting lost in the form.
+fn settings_by_id() -> Vec<Mutant> {
+    let mut all = Vec::new();
+    for row in table(Kind::Setting) {
+        let name = format!("{:02X} in the form", row.id);
+        let at = Place { function: Function::Normaliser, verdict: 0, name };
+        for k in 0..row.own_words() {
+            for bit in defined_bits(row, k) {
+                let what = format!("word {k} without bit {bit}");
+                all.push(at.change_written(&what, row.id, k, move |word| word & !(1 << bit)));
+            }
+        }
+    }
+    all
+}
+
+/// Each defined bit lost in the image that a command leaves.
+fn image_by_id() -> Vec<Mutant> {
+    let mut all = Vec::new();
+    for row in &rules::paper().table.0 {
+        let (first, words) = match row.leaves {
+            Leaves::Nothing => continue,
+            Leaves::Header(word) => (word, 1),
+            Leaves::AllWords(word) => (word, row.own_words()),
+        };
+        let (id, name) = (row.id, format!("image left by {:02X}", row.id));
+        let at = Place { function: Function::Reader, verdict: 0, name };
+        for k in 0..words {
+            for bit in defined_bits(row, k) {
+                let what = format!("word {k} without bit {bit}");
+                all.push(at.change(&what, move |case, outcome| {
+                    if rules::paper().walk(&case.list).0.iter().any(|c| c.row.id == id) {
+                        outcome.image[first + k] &= !(1 << bit);
+                    }
+                }));
+            }
+        }
+    }
+    all
+}
+
+fn table(kind: Kind) -> impl Iterator<Item = &'static Row> {
+    rules::paper().table.0.iter().filter(move |row| row.kind == kind)
+}
+
+fn defined_bits(row: &Row, word: usize) -> impl Iterator<Item = u32> {
+    let mask = row.masks[word].bits;
+    (0..32).filter(move |bit| mask >> bit & 1 == 1)
 }
 
 /// Where the records, or the commands of a form, with this id begin.

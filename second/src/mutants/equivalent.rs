@@ -70,7 +70,10 @@ const REASONS: &[Reason] = &[
             "table: 48: fault 0: test: left: field: bits 26..0, *",
         ],
     ),
-    ("a primitive's header is zero: no groups", &["table: 48: payload: like a load's"]),
+    (
+        "a primitive's header is zero",
+        &["table: 48: payload: like a load's", "record of 48: header without bit *"],
+    ),
     ("this header has no defined bit: no groups", &["table: C4: payload: like a load's"]),
     (
         "bits 30 and 31 of this word are undefined: 6 is given before",
