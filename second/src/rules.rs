@@ -99,15 +99,15 @@ impl Rules {
     }
 
     /// The first word of the command with a bit outside its mask.
-    fn undefined_word(&self, row: &Row, words: &[u32], which: Lowest) -> Option<usize> {
+    fn undefined_word(&self, row: &Row, words: &[u32], which: WhichWord) -> Option<usize> {
         let outside = |&k: &usize| {
             let word = if k == 0 { self.tested_header.of(words) } else { words[k] };
             word & !row.masks[k].bits != 0
         };
         let mut all = 0..words.len();
         match which {
-            Lowest::First => all.find(outside),
-            Lowest::Last => all.rev().find(outside),
+            WhichWord::Lowest => all.find(outside),
+            WhichWord::Highest => all.rev().find(outside),
         }
     }
 
@@ -167,23 +167,8 @@ impl Rules {
 
     /// The commands of a list, by verdicts 1 to 10.
     fn checked<'a>(&'a self, list: &'a [u32], image: &[u32]) -> Result<Vec<Command<'a>>, Refusal> {
-        let facts = Facts { list_words: list.len(), image_words: image.len(), ..Facts::default() };
-        self.pass(&self.before_commands, &OTHER_ID, 0, &facts)?;
+        self.pass(&self.before_commands, &OTHER_ID, 0, &Facts::of(list, image))?;
         self.commands(list)
-    }
-
-    /// Verdict 11, on what is needed and what there is.
-    fn fits(
-        &self,
-        checks: &[Check],
-        list: &[u32],
-        image: &[u32],
-        needed: usize,
-        room: usize,
-    ) -> Result<(), Refusal> {
-        let (list_words, image_words) = (list.len(), image.len());
-        let facts = Facts { list_words, image_words, needed, room, ..Facts::default() };
-        self.pass(checks, &OTHER_ID, 0, &facts)
     }
 
     fn accepted(&self, list: &[u32], commands: &[Command], words: usize) -> Answer {
@@ -222,13 +207,9 @@ impl Rules {
     ) -> Result<Answer, Refusal> {
         let commands = self.checked(list, image)?;
         let found = self.records(&commands);
-        self.fits(
-            &self.room_for_records,
-            list,
-            image,
-            found.len(),
-            self.record_room(records.len()),
-        )?;
+        let (needed, room) = (found.len(), self.record_room(records.len()));
+        let facts = Facts { needed, room, ..Facts::of(list, image) };
+        self.pass(&self.room_for_records, &OTHER_ID, 0, &facts)?;
         for command in &commands {
             self.apply(command, image);
         }
@@ -284,7 +265,8 @@ impl Rules {
     ) -> Result<Answer, Refusal> {
         let commands = self.checked(list, image)?;
         let form = self.normal_form(&commands, image);
-        self.fits(&self.room_for_form, list, image, form.len(), out.len())?;
+        let facts = Facts { needed: form.len(), room: out.len(), ..Facts::of(list, image) };
+        self.pass(&self.room_for_form, &OTHER_ID, 0, &facts)?;
         put(out, &form);
         Ok(self.accepted(list, &commands, form.len()))
     }

@@ -71,23 +71,14 @@ pub(crate) use choices;
 /// A sequence: the changes of each element, each element left out, each two neighbours swapped.
 impl<T: Vary + Clone> Vary for Vec<T> {
     fn variants(&self) -> Variants<Self> {
-        let mut all = element_variants(self);
-        for (k, element) in self.iter().enumerate() {
-            let mut less = self.clone();
-            less.remove(k);
-            all.push((format!("{}: left out", element.label(k)), less));
-            if let Some(next) = self.get(k + 1) {
-                let mut swapped = self.clone();
-                swapped.swap(k, k + 1);
-                let names = (element.label(k), next.label(k + 1));
-                all.push((format!("{}: behind {}", names.0, names.1), swapped));
-            }
-        }
+        let mut all = one_changed(self);
+        all.extend(one_left_out(self));
+        all.extend(two_swapped(self, |_, _| true));
         all
     }
 }
 
-pub fn element_variants<T: Vary + Clone>(elements: &[T]) -> Variants<Vec<T>> {
+pub fn one_changed<T: Vary + Clone>(elements: &[T]) -> Variants<Vec<T>> {
     let mut all = Vec::new();
     for (k, element) in elements.iter().enumerate() {
         all.extend(within(&element.label(k), element, |changed| {
@@ -97,6 +88,30 @@ pub fn element_variants<T: Vary + Clone>(elements: &[T]) -> Variants<Vec<T>> {
         }));
     }
     all
+}
+
+pub fn one_left_out<T: Vary + Clone>(elements: &[T]) -> Variants<Vec<T>> {
+    let without = |k: usize| {
+        let mut less = elements.to_vec();
+        let left_out = less.remove(k);
+        (format!("{}: left out", left_out.label(k)), less)
+    };
+    (0..elements.len()).map(without).collect()
+}
+
+/// Each two neighbours swapped, if they may be.
+pub fn two_swapped<T: Vary + Clone>(
+    elements: &[T],
+    may_be: impl Fn(&T, &T) -> bool,
+) -> Variants<Vec<T>> {
+    let pairs = (1..elements.len()).filter(|&k| may_be(&elements[k - 1], &elements[k]));
+    let swap = |k: usize| {
+        let mut swapped = elements.to_vec();
+        swapped.swap(k - 1, k);
+        let (first, second) = (elements[k - 1].label(k - 1), elements[k].label(k));
+        (format!("{first}: behind {second}"), swapped)
+    };
+    pairs.map(swap).collect()
 }
 
 impl Vary for bool {

@@ -538,21 +538,15 @@ fn timers(words: usize) -> Vec<u32> {
 
 fn sizes() -> Vec<Vec<u32>> {
     let max = MAX_LIST_WORDS;
-    vec![
-        vec![],
-        timers(1),
-        timers(max - 1),
-        timers(max),
-        timers(max + 1),
-        long_loads(),
-        timers_then(&[0x06000000]),
-        vec![FLUSH; max],
-    ]
+    vec![vec![], timers(1), long_loads(), timers_then(&[0x06000000]), vec![FLUSH; max]]
 }
 
 fn other_sizes() -> Vec<Vec<u32>> {
     let max = MAX_LIST_WORDS;
     vec![
+        timers(max - 1),
+        timers(max),
+        timers(max + 1),
         timers_then(&[0x10000000, 0, 0, 0]),
         timers_then(&[0x10000000, 0, 0]),
         timers_then(&[0x40000001, 0, 0, 0, 0, 0, 0]),

@@ -1,9 +1,11 @@
 //! Answers and lent words other than document 01's, for each verdict by itself.
 
+mod by_id;
+
 use super::changes::Mutant;
 use crate::lists::Case;
 use crate::outcome::{Function, Outcome};
-use crate::rules::{self, put, Kind, Leaves, Row, IMAGE_WORDS, RECORD_WORDS};
+use crate::rules::{self, put, IMAGE_WORDS};
 
 const FUNCTIONS: [(Function, &str); 2] =
     [(Function::Reader, "reader"), (Function::Normaliser, "normaliser")];
@@ -30,9 +32,7 @@ pub fn all() -> Vec<Mutant> {
         }
     }
     all.extend(image_words());
-    all.extend(records_by_id());
-    all.extend(settings_by_id());
-    all.extend(image_by_id());
+    all.extend(by_id::all());
     all.push(applied_from_the_end());
     all.extend(listings());
     all
@@ -55,26 +55,6 @@ impl Place {
                 change(case, &mut outcome);
             }
             outcome
-        })
-    }
-}
-
-impl Place {
-    /// A word changed in what is written for each command of this id.
-    fn change_written(
-        &self,
-        what: &str,
-        id: u32,
-        word: usize,
-        change: impl Fn(u32) -> u32 + 'static,
-    ) -> Mutant {
-        let function = self.function;
-        self.change(what, move |_, outcome| {
-            let written = &outcome.buffer[..outcome.answer[WORDS] as usize];
-            for position in places_of(id, function, written) {
-                let slot = &mut outcome.buffer[position + word];
-                *slot = change(*slot);
-            }
         })
     }
 }
@@ -186,87 +166,6 @@ fn image_words() -> Vec<Mutant> {
         at.change(&format!("image word {k:02X} changed"), move |_, outcome| outcome.image[k] ^= 1)
     };
     (0..IMAGE_WORDS).map(changed).collect()
-}
-
-/// Each number of the record of one id changed, each defined bit of its header lost.
-fn records_by_id() -> Vec<Mutant> {
-    let mut all = Vec::new();
-    for row in table(Kind::Work) {
-        let name = format!("record of {:02X}", row.id);
-        let at = Place { function: Function::Reader, verdict: 0, name };
-        for (k, word) in ["id", "position", "words"].into_iter().enumerate() {
-            all.push(at.change_written(word, row.id, k, |word| word ^ 1));
-        }
-        for bit in defined_bits(row, 0) {
-            let what = format!("header without bit {bit}");
-            all.push(at.change_written(&what, row.id, 3, move |word| word & !(1 << bit)));
-        }
-    }
-    all
-}
-
-/// Each defined bit of each setting lost in the form.
-fn settings_by_id() -> Vec<Mutant> {
-    let mut all = Vec::new();
-    for row in table(Kind::Setting) {
-        let name = format!("{:02X} in the form", row.id);
-        let at = Place { function: Function::Normaliser, verdict: 0, name };
-        for k in 0..row.own_words() {
-            for bit in defined_bits(row, k) {
-                let what = format!("word {k} without bit {bit}");
-                all.push(at.change_written(&what, row.id, k, move |word| word & !(1 << bit)));
-            }
-        }
-    }
-    all
-}
-
-/// Each defined bit lost in the image that a command leaves.
-fn image_by_id() -> Vec<Mutant> {
-    let mut all = Vec::new();
-    for row in &rules::paper().table.0 {
-        let (first, words) = match row.leaves {
-            Leaves::Nothing => continue,
-            Leaves::Header(word) => (word, 1),
-            Leaves::AllWords(word) => (word, row.own_words()),
-        };
-        let (id, name) = (row.id, format!("image left by {:02X}", row.id));
-        let at = Place { function: Function::Reader, verdict: 0, name };
-        for k in 0..words {
-            for bit in defined_bits(row, k) {
-                let what = format!("word {k} without bit {bit}");
-                all.push(at.change(&what, move |case, outcome| {
-                    if rules::paper().walk(&case.list).0.iter().any(|c| c.row.id == id) {
-                        outcome.image[first + k] &= !(1 << bit);
-                    }
-                }));
-            }
-        }
-    }
-    all
-}
-
-fn table(kind: Kind) -> impl Iterator<Item = &'static Row> {
-    rules::paper().table.0.iter().filter(move |row| row.kind == kind)
-}
-
-fn defined_bits(row: &Row, word: usize) -> impl Iterator<Item = u32> {
-    let mask = row.masks[word].bits;
-    (0..32).filter(move |bit| mask >> bit & 1 == 1)
-}
-
-/// Where the records, or the commands of a form, with this id begin.
-fn places_of(id: u32, function: Function, written: &[u32]) -> Vec<usize> {
-    match function {
-        Function::Reader => {
-            let records = written.chunks_exact(RECORD_WORDS).enumerate();
-            records.filter(|(_, record)| record[0] == id).map(|(n, _)| RECORD_WORDS * n).collect()
-        }
-        Function::Normaliser => {
-            let commands = rules::paper().walk(written).0;
-            commands.iter().filter(|c| c.row.id == id).map(|c| c.position).collect()
-        }
-    }
 }
 
 /// Of several commands that set a word, the first decides.

@@ -93,7 +93,7 @@ const REASONS: &[Reason] = &[
     ),
     (
         "both give 8 at the command's first word",
-        &["table: 40: fault 4: behind the next", "table: 84: fault 1: behind the next"],
+        &["table: 40: fault 4: behind fault 5", "table: 84: fault 1: behind fault 2"],
     ),
     (
         "no command changes the word behind this setting",

@@ -233,7 +233,7 @@ fn each_command() -> Vec<Check> {
         // "fewer than four words left for a group"
         check(5, Quantity::WordsLeft.fewer_than(Quantity::OwnWords), FirstWord),
         // "undefined bit set": "lowest such word"
-        Check { verdict: 6, when: When::UndefinedBit(Lowest::First), position: ThatWord },
+        Check { verdict: 6, when: When::UndefinedBit(WhichWord::Lowest), position: ThatWord },
         // "illegal value": "lowest such word"
         fault(7, FaultKind::Illegal, ThatWord),
         // "clash": "command's first word"

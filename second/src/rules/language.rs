@@ -110,6 +110,11 @@ pub struct Facts<'a> {
 }
 
 impl Facts<'_> {
+    /// What is known of a whole list and image.
+    pub fn of(list: &[u32], image: &[u32]) -> Facts<'static> {
+        Facts { list_words: list.len(), image_words: image.len(), ..Facts::default() }
+    }
+
     fn number(&self, quantity: Quantity) -> u32 {
         let number = match quantity {
             Quantity::ListWords => self.list_words,

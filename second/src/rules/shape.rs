@@ -136,13 +136,13 @@ pub struct Check {
 #[derive(Clone, Debug, PartialEq)]
 pub enum When {
     Holds(Test),
-    UndefinedBit(Lowest),
+    UndefinedBit(WhichWord),
     Fault(FaultKind),
 }
 
 choices! {
-    /// Which of several words is meant.
-    pub enum Lowest { First, Last }
+    /// Which of several undefined words is told.
+    pub enum WhichWord { Lowest, Highest }
 }
 
 #[derive(Clone, Copy, Debug, PartialEq, Eq)]

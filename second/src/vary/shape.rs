@@ -1,6 +1,6 @@
 //! Changes of the table of commands and of the table of verdicts.
 
-use super::{element_variants, within, Variants, Vary};
+use super::{one_changed, one_left_out, two_swapped, within, Variants, Vary};
 use crate::rules::{
     Check, Fault, FaultKind, Field, Kind, Leaves, Mask, Payload, Position, Row, Table, When,
 };
@@ -8,32 +8,33 @@ use crate::rules::{
 /// Each row changed or left out, each unknown id added, each two settings in the other order.
 impl Vary for Table {
     fn variants(&self) -> Variants<Self> {
-        let rows = element_variants(&self.0).into_iter();
-        let mut all: Variants<Table> = rows.map(|(name, rows)| (name, Table(rows))).collect();
-        for (k, row) in self.0.iter().enumerate() {
-            let mut rows = self.0.clone();
-            rows.remove(k);
-            all.push((format!("{}: left out", row.label(k)), Table(rows)));
-        }
-        for id in (0..256).filter(|id| self.0.iter().all(|row| row.id != *id)) {
-            for masks in [&[0xFFFFFF][..], &[0xFFFFFF, !0, !0, !0]] {
-                let mut rows = self.0.clone();
-                rows.push(Row::new(id, masks));
-                all.push((format!("{id:02X} added with {} words", masks.len()), Table(rows)));
-            }
-        }
+        let mut all = one_changed(&self.0);
+        all.extend(one_left_out(&self.0));
+        all.extend(one_added(&self.0));
         all.extend(swapped_settings(&self.0));
-        all
+        all.into_iter().map(|(name, rows)| (name, Table(rows))).collect()
     }
 }
 
-fn swapped_settings(rows: &[Row]) -> Variants<Table> {
+fn one_added(rows: &[Row]) -> Variants<Vec<Row>> {
+    let mut all = Vec::new();
+    for id in (0..256).filter(|id| rows.iter().all(|row| row.id != *id)) {
+        for masks in [&[0xFFFFFF][..], &[0xFFFFFF, !0, !0, !0]] {
+            let more = [rows, &[Row::new(id, masks)]].concat();
+            all.push((format!("{id:02X} added with {} words", masks.len()), more));
+        }
+    }
+    all
+}
+
+/// Work may stand between them, since only the order of settings counts.
+fn swapped_settings(rows: &[Row]) -> Variants<Vec<Row>> {
     let setting = |k: &usize| rows[*k].kind == Kind::Setting;
     let places: Vec<usize> = (0..rows.len()).filter(setting).collect();
     let swap = |pair: &[usize]| {
         let mut rows = rows.to_vec();
         rows.swap(pair[0], pair[1]);
-        (format!("{:02X} behind {:02X}", rows[pair[1]].id, rows[pair[0]].id), Table(rows))
+        (format!("{:02X}: behind {:02X}", rows[pair[1]].id, rows[pair[0]].id), rows)
     };
     places.windows(2).map(swap).collect()
 }
@@ -71,7 +72,7 @@ impl Row {
     /// Each bit of each mask, and other sizes.
     fn mask_variants(&self) -> Variants<Row> {
         let row = |masks: Vec<Mask>| Row { masks, ..self.clone() };
-        let masks = element_variants(&self.masks).into_iter();
+        let masks = one_changed(&self.masks).into_iter();
         let mut all: Variants<Row> =
             masks.map(|(name, masks)| (format!("mask {name}"), row(masks))).collect();
         for words in [1, 2, 3, 4, 5].into_iter().filter(|words| *words != self.own_words()) {
@@ -117,20 +118,10 @@ impl Row {
 
     /// Each fault changed or left out, each two neighbours of one kind swapped.
     fn fault_variants(&self) -> Variants<Row> {
-        let row = |faults| Row { faults, ..self.clone() };
-        let faults = element_variants(&self.faults).into_iter();
-        let mut all: Variants<Row> = faults.map(|(name, faults)| (name, row(faults))).collect();
-        for (k, fault) in self.faults.iter().enumerate() {
-            let mut less = self.faults.clone();
-            less.remove(k);
-            all.push((format!("{}: left out", fault.label(k)), row(less)));
-            if self.faults.get(k + 1).is_some_and(|next| next.kind == fault.kind) {
-                let mut swapped = self.faults.clone();
-                swapped.swap(k, k + 1);
-                all.push((format!("{}: behind the next", fault.label(k)), row(swapped)));
-            }
-        }
-        all
+        let mut all = one_changed(&self.faults);
+        all.extend(one_left_out(&self.faults));
+        all.extend(two_swapped(&self.faults, |a, b| a.kind == b.kind));
+        all.into_iter().map(|(name, faults)| (name, Row { faults, ..self.clone() })).collect()
     }
 }
 
