@@ -140,14 +140,14 @@ impl Vary for usize {
     }
 }
 
-/// A text: each character left out, each letter in the other case.
+/// A text: each character left out, each letter in upper case.
 impl Vary for String {
     fn variants(&self) -> Variants<Self> {
         let mut all = Vec::new();
         for (k, c) in self.char_indices() {
             let (front, back) = (&self[..k], &self[k + 1..]);
             all.push((format!("{c:?} at {k} left out"), format!("{front}{back}")));
-            if c.is_ascii_alphabetic() {
+            if c.is_ascii_lowercase() {
                 let upper = c.to_ascii_uppercase();
                 all.push((format!("{upper:?} at {k}"), format!("{front}{upper}{back}")));
             }

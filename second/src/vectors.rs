@@ -66,9 +66,20 @@ pub fn digest_of(run: impl Fn(Function) -> Outcome) -> u32 {
 mod tests {
     use super::*;
 
+    /// The crate `vectors` reads no more.
     #[test]
     fn file_is_small() {
         assert!(crate_files().0.len() < 524_288);
+    }
+
+    /// Only the plane range refuses it: seen where the length is read from fewer bits.
+    #[test]
+    fn planes_with_their_payload_are_there() {
+        let mut list = vec![0; 68];
+        list[0] = 0x40500010;
+        let case = stored_cases().into_iter().find(|case| case.list == list);
+        let answer = outcome::read(rules::paper(), &case.expect("the case")).answer;
+        assert_eq!(answer, [8, 0, 0, 0, 0]);
     }
 
     #[test]

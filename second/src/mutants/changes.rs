@@ -76,3 +76,23 @@ pub fn all() -> Vec<Mutant> {
     all.extend(effects::all());
     all
 }
+
+#[cfg(test)]
+mod tests {
+    use super::*;
+    use std::collections::HashSet;
+
+    /// So that a name given with a reason means one change.
+    #[test]
+    fn names_differ() {
+        let mut names = HashSet::new();
+        assert!(all().into_iter().all(|mutant| names.insert(mutant.name)));
+    }
+
+    #[test]
+    fn every_variant_of_the_rules_differs_from_the_paper() {
+        for (name, rules) in Rules::paper().variants() {
+            assert!(rules != *rules::paper(), "{name}");
+        }
+    }
+}

@@ -122,9 +122,6 @@ fn accepted(at: &Place) -> Vec<Mutant> {
         all.push(at.change("words: four for each record", |_, outcome| {
             outcome.answer[WORDS] = 4 * outcome.answer[RECORDS];
         }));
-        all.push(at.change("position: the form's length", |_, outcome| {
-            outcome.answer[POSITION] = outcome.answer[WORDS];
-        }));
     }
     all
 }

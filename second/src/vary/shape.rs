@@ -41,25 +41,35 @@ fn swapped_settings(rows: &[Row]) -> Variants<Vec<Row>> {
 
 impl Vary for Row {
     fn variants(&self) -> Variants<Self> {
+        // Every part is named here, so that a new one can't be forgotten.
+        let Row {
+            id,
+            masks: _,
+            kind,
+            leaves: _,
+            flip,
+            payload: _,
+            faults: _,
+            settings_first,
+            compared,
+        } = self;
         let row = || self.clone();
-        let mut all = within("id", &self.id, |id| Row { id, ..row() });
+        let mut all = within("id", id, |id| Row { id, ..row() });
         all.extend(self.mask_variants());
-        all.extend(within("kind", &self.kind, |kind| Row { kind, ..row() }));
-        all.extend(within("flip", &self.flip, |flip| Row { flip, ..row() }));
+        all.extend(within("kind", kind, |kind| Row { kind, ..row() }));
         for leaves in self.other_leavings() {
             all.push((format!("leaves {leaves:?}"), Row { leaves, ..row() }));
         }
+        all.extend(within("flip", flip, |flip| Row { flip, ..row() }));
         all.extend(self.payload_variants());
         all.extend(self.fault_variants());
-        match self.kind {
-            Kind::Work => {
-                let settings_first = !self.settings_first;
-                all.push(("no settings first".into(), Row { settings_first, ..row() }));
-            }
-            Kind::Setting => {
-                all.extend(within("compared", &self.compared, |compared| Row { compared, ..row() }))
-            }
-        }
+        all.extend(match kind {
+            Kind::Work => within("settings first", settings_first, |settings_first| Row {
+                settings_first,
+                ..row()
+            }),
+            Kind::Setting => within("compared", compared, |compared| Row { compared, ..row() }),
+        });
         all
     }
 
@@ -143,11 +153,12 @@ impl Vary for Payload {
 
 impl Vary for Fault {
     fn variants(&self) -> Variants<Self> {
-        let mut all = within("kind", &self.kind, |kind| Fault { kind, ..self.clone() });
-        all.extend(within("test", &self.test, |test| Fault { test, ..self.clone() }));
+        let Fault { kind, word, test } = self;
+        let mut all = within("kind", kind, |kind| Fault { kind, ..self.clone() });
+        all.extend(within("test", test, |test| Fault { test, ..self.clone() }));
         // A clash is told at the first word.
-        if self.kind == FaultKind::Illegal {
-            all.extend(within("word", &self.word, |word| Fault { word, ..self.clone() }));
+        if *kind == FaultKind::Illegal {
+            all.extend(within("word", word, |word| Fault { word, ..self.clone() }));
         }
         all
     }
@@ -159,8 +170,9 @@ impl Vary for Fault {
 
 impl Vary for Check {
     fn variants(&self) -> Variants<Self> {
-        let mut all = within("verdict", &self.verdict, |verdict| Check { verdict, ..self.clone() });
-        all.extend(within("when", &self.when, |when| Check { when, ..self.clone() }));
+        let Check { verdict, when, position: _ } = self;
+        let mut all = within("verdict", verdict, |verdict| Check { verdict, ..self.clone() });
+        all.extend(within("when", when, |when| Check { when, ..self.clone() }));
         for position in self.other_positions() {
             all.push((format!("at {position:?}"), Check { position, ..self.clone() }));
         }
