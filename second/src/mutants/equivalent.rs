@@ -51,15 +51,21 @@ const REASONS: &[Reason] = &[
     (
         "only code 7 is read as 5, and 7 is refused before",
         &[
-            "table: 40: fault 4: test: second: left: field: without bit 21",
-            "table: 40: fault 5: test: first: left: field: without bit 21",
+            "table: 40: fault 4: test: second: not: field: without bit 21",
+            "table: 40: fault 5: test: first: field: without bit 21",
         ],
     ),
     (
-        "codes 6 and 7 are refused before, so that no code is over 5",
+        "codes 3, 4, 6 and 7 are refused before",
         &[
-            "table: 40: fault 4: test: second: Below, not NotEqual",
-            "table: 40: fault 5: test: first: AtLeast, not Equal",
+            "table: 40: fault 4: test: second: not: set: with 3",
+            "table: 40: fault 4: test: second: not: set: with 4",
+            "table: 40: fault 4: test: second: not: set: with 6",
+            "table: 40: fault 4: test: second: not: set: with 7",
+            "table: 40: fault 5: test: first: set: with 3",
+            "table: 40: fault 5: test: first: set: with 4",
+            "table: 40: fault 5: test: first: set: with 6",
+            "table: 40: fault 5: test: first: set: with 7",
         ],
     ),
     (

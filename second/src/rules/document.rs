@@ -159,6 +159,7 @@ fn clash(word: usize, test: Test) -> Fault {
 
 fn load_faults(terms: &Terms) -> Vec<Fault> {
     let code = terms.load_code;
+    let planes = terms.load_offset.plus(terms.load_length);
     // A mask for each legal code, and one for the others.
     let must_be_zero = |word: usize, codes: &[u32]| {
         let masks = [vec![0], vec![1], vec![2], vec![5], vec![3, 4, 6, 7]].map(|of| {
@@ -176,9 +177,9 @@ fn load_faults(terms: &Terms) -> Vec<Fault> {
         must_be_zero(2, &[0, 5]),
         must_be_zero(3, &[0, 5]),
         // "bit 23 may be set only with code 5"
-        clash(0, terms.load_converts.is_not(0).and(code.is_not(5))),
+        clash(0, terms.load_converts.is_not(0).and(code.one_of(&[5], 8).not())),
         // "For code 5, offset plus length is at most 8"
-        clash(0, code.is(5).and(terms.load_offset.plus(terms.load_length).over(Value::Number(8)))),
+        clash(0, code.one_of(&[5], 8).and(planes.over(Value::Number(8)))),
     ]
 }
 

@@ -241,6 +241,10 @@ pub enum Test {
 }
 
 impl Test {
+    pub fn not(self) -> Test {
+        Test::Not(Box::new(self))
+    }
+
     pub fn and(self, other: Test) -> Test {
         Test::Both(Box::new(self), Box::new(other))
     }

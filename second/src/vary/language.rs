@@ -132,19 +132,26 @@ impl Vary for Test {
             Test::OneOf(field, set) => {
                 let mut all = within("field", field, |field| Test::OneOf(field, set.clone()));
                 all.extend(within("set", set, |set| Test::OneOf(*field, set)));
-                all.push(("negated".into(), Test::Not(Box::new(self.clone()))));
+                all.push(("negated".into(), self.clone().not()));
+                all.push(("always".into(), constant(Comparison::Always)));
+                all.push(("never".into(), constant(Comparison::Never)));
                 all
             }
             Test::Both(a, b) => {
                 let mut all = within("first", &**a, |a| a.and((**b).clone()));
                 all.extend(within("second", &**b, |b| (**a).clone().and(b)));
-                all.push(("negated".into(), Test::Not(Box::new(self.clone()))));
-                all.push(("either".into(), either(a, b)));
+                all.push(("negated".into(), self.clone().not()));
+                let neither = (**a).clone().not().and((**b).clone().not());
+                all.push(("either".into(), neither.not()));
                 all
             }
-            Test::Not(test) => within("not", &**test, |test| Test::Not(Box::new(test))),
+            Test::Not(test) => within("not", &**test, Test::not),
         }
     }
+}
+
+fn constant(comparison: Comparison) -> Test {
+    Test::Compare(Value::Number(0), comparison, Value::Number(0))
 }
 
 fn compare_variants(a: &Value, comparison: Comparison, b: &Value) -> Variants<Test> {
@@ -155,9 +162,4 @@ fn compare_variants(a: &Value, comparison: Comparison, b: &Value) -> Variants<Te
         all.push((name, Test::Compare(a.clone(), other, b.clone())));
     }
     all
-}
-
-fn either(a: &Test, b: &Test) -> Test {
-    let not = |test: &Test| Test::Not(Box::new(test.clone()));
-    Test::Not(Box::new(not(a).and(not(b))))
 }

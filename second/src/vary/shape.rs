@@ -96,8 +96,11 @@ impl Row {
     fn other_leavings(&self) -> Vec<Leaves> {
         let id = self.id as usize;
         let mut all = vec![Leaves::Nothing];
-        let places = [0x08, id.wrapping_sub(1), id, id + 1];
-        for (k, word) in places.into_iter().enumerate().filter(|(_, word)| *word < 256) {
+        let mut places = vec![0x08, id, id.wrapping_sub(1), id + 1];
+        if let Leaves::Header(word) | Leaves::AllWords(word) = self.leaves {
+            places.extend([word - 1, word + 1]);
+        }
+        for (k, &word) in places.iter().enumerate().filter(|(_, word)| **word < 256) {
             if !places[..k].contains(&word) {
                 all.push(Leaves::Header(word));
                 all.push(Leaves::AllWords(word));

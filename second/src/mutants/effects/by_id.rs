@@ -44,7 +44,7 @@ fn settings_by_id() -> Vec<Mutant> {
     all
 }
 
-/// Each defined bit lost in the image that a command leaves.
+/// Each defined bit lost in the image words that a command sets, and the words beside them changed.
 fn image_by_id() -> Vec<Mutant> {
     let mut all = Vec::new();
     for row in &rules::paper().table.0 {
@@ -55,16 +55,21 @@ fn image_by_id() -> Vec<Mutant> {
         };
         let (id, name) = (row.id, format!("image left by {:02X}", row.id));
         let at = Place { function: Function::Reader, verdict: 0, name };
+        let change = |what: &str, word: usize, change: Box<dyn Fn(u32) -> u32>| {
+            at.change(what, move |case, outcome| {
+                if rules::paper().walk(&case.list).0.iter().any(|c| c.row.id == id) {
+                    outcome.image[word] = change(outcome.image[word]);
+                }
+            })
+        };
         for k in 0..words {
             for bit in defined_bits(row, k) {
                 let what = format!("word {k} without bit {bit}");
-                all.push(at.change(&what, move |case, outcome| {
-                    if rules::paper().walk(&case.list).0.iter().any(|c| c.row.id == id) {
-                        outcome.image[first + k] &= !(1 << bit);
-                    }
-                }));
+                all.push(change(&what, first + k, Box::new(move |word| word & !(1 << bit))));
             }
         }
+        all.push(change("word before it changed", first - 1, Box::new(|word| word ^ 1)));
+        all.push(change("word behind it changed", first + words, Box::new(|word| word ^ 1)));
     }
     all
 }
