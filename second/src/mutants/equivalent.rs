@@ -37,15 +37,15 @@ const REASONS: &[Reason] = &[
         ],
     ),
     (
-        "of the legal codes only 5 is read otherwise, as 1, which has the same rule for this word",
+        "of the legal codes only 5 is read otherwise, as 1, with the same rule for the second word",
         &["table: 40: fault 1: test: left: chosen by: bits 21..20, *"],
     ),
     (
-        "codes 1 and 5 are read as 0 and 4, which have the same rule for this word",
+        "codes 1 and 5 are read as 0 and 4, which have the same rule for the second word",
         &["table: 40: fault 1: test: left: chosen by: without bit 20"],
     ),
     (
-        "these codes are illegal themselves, in a lower word",
+        "codes 3, 4, 6 and 7 are illegal themselves, in a lower word than those that must be zero",
         &["table: 40: fault *: test: left: for [3, 4, 6, 7]: *"],
     ),
     (
@@ -56,7 +56,7 @@ const REASONS: &[Reason] = &[
         ],
     ),
     (
-        "codes 3, 4, 6 and 7 are refused before",
+        "codes 3, 4, 6 and 7 are refused before bit 23 and the planes are looked at",
         &[
             "table: 40: fault 4: test: second: not: set: with 3",
             "table: 40: fault 4: test: second: not: set: with 4",
@@ -77,12 +77,15 @@ const REASONS: &[Reason] = &[
         ],
     ),
     (
-        "a primitive's header is zero",
+        "a primitive's header is zero: no groups of payload, no bit to lose in the record",
         &["table: 48: payload: like a load's", "record of 48: header without bit *"],
     ),
-    ("this header has no defined bit: no groups", &["table: C4: payload: like a load's"]),
     (
-        "bits 30 and 31 of this word are undefined: 6 is given before",
+        "the header of C4 has no defined bit: no groups of payload",
+        &["table: C4: payload: like a load's"],
+    ),
+    (
+        "bits 30 and 31 of a window clip's second word are undefined: 6 is given before",
         &[
             "table: 84: fault 0: test: left: field: bits 3*..28, *",
             "table: 84: fault 1: test: right: chosen by: bits 3*..28, *",
@@ -98,11 +101,11 @@ const REASONS: &[Reason] = &[
         &["table: 84: fault 1: test: right: for 0: 16, not 15"],
     ),
     (
-        "both give 8 at the command's first word",
+        "both faults give 8 at the command's first word",
         &["table: 40: fault 4: behind fault 5", "table: 84: fault 1: behind fault 2"],
     ),
     (
-        "no command changes the word behind this setting",
+        "no command changes the image words behind settings 02, 26, 31, 90 and C4",
         &[
             "table: 02: compared: with bit 1",
             "table: 26: compared: with bit 1",
@@ -112,7 +115,7 @@ const REASONS: &[Reason] = &[
         ],
     ),
     (
-        "4 is given for this id whether or not it is in the table",
+        "4 is given for 03 and 04 whether or not they are in the table",
         &["table: 03 added *", "table: 04 added *"],
     ),
     ("no id is both unknown and 03 or 04", &["each command: verdict 3: behind verdict 4"]),
@@ -132,7 +135,10 @@ const REASONS: &[Reason] = &[
             "order: verdict 5 before 3",
         ],
     ),
-    ("the first command follows nothing", &["order: verdict 10 for all but the first"]),
+    (
+        "the first command follows nothing: 10 is never given for it",
+        &["order: verdict 10 for all but the first"],
+    ),
     (
         "at each work command the form brings its settings to the list's, so that both images \
          agree there",
@@ -142,7 +148,10 @@ const REASONS: &[Reason] = &[
         "no rule reads the image, and the listing doesn't show it",
         &["listing: starting word: 1, not 0"],
     ),
-    ("every number has a digit", &["listing: columns: *: least digits: 0, not 1"]),
+    (
+        "every number has a digit, whether none or one is asked for",
+        &["listing: columns: *: least digits: 0, not 1"],
+    ),
 ];
 
 pub fn reason(name: &str) -> Option<&'static str> {
