@@ -1,48 +1,32 @@
 -- The command at a position of a list, by the tests that the code makes.
-use Prim.Native.Nat.{ℕ, suc, _+_, _*_, _%_, _≤_, _<_, _-_}
-use native.Mathlib.Nat.{add-zero, div-one}
+use Prim.Native.Nat.{ℕ, suc, _+_, _*_, _/_, _%_, _^_, _≤_, _<_, _-_}
+use native.Mathlib.Nat.{add-zero}
 use native.Mathlib.Numerals.{add-one, add-two, add-three}
 use native.Mathlib.Omega.{arith}
 use mathlib.Core.Path.{_≡_, refl, ap, ap₂, sym, _∙_}
 use mathlib.Core.Bool.{Bool, true, false, cond, not}
 use mathlib.Core.List.{List, [], _∷_}
-use lib.Dec.{eqb, ltb}
+use mathlib.Core.Option.{Option, none, some}
+use lib.Dec.{eqb, leb, ltb}
 use borrow.Author.Tests.{le-ltb, lt-ltb, eq-eqb, ne-eqb, eqb-true, not-false}
-use lib.ListN.{length, getD, take, drop, length-drop}
+use lib.ListN.{length, getD, take, drop, length-drop, length-take}
 use lib.Seq.{drop-cons, length-take-le}
 use Rattle.rules.specs.declared.Refusal.{Refusal}
 use Rattle.rules.specs.Word.{idOf, headerOf, undefined}
 use Rattle.rules.specs.Table.{Row, rowOf, isSetting}
-use Rattle.rules.specs.Command.{payload, moreMasks}
+use Rattle.rules.specs.Command.{payload, restSize, commandSize}
 use Rattle.rules.specs.Values.{refusal, faults}
-use Rattle.rules.specs.Decode.{Decoded, bad, good, unknown, decodeKnown, decodeRow, decode}
+use Rattle.rules.specs.Decode.{Decoded, bad, good, firstFault, unknown, decodeRow, decode}
 use Rattle.rules.proofs.Numbers.{faults-proper}
-use Rattle.command.specs.declared.Group.{Group}
-use Rattle.command.specs.declared.Decoded.the-variants.{Command, Refused}
-use Rattle.command.specs.Tables.{lineOf, rowAt, maskTable, fourWords, settingKind, KnownId}
-use Rattle.command.specs.Faults.{firstRefusal, found, none, own}
-use Rattle.command.specs.View.{groupAt, commandSize, view, decodedAt}
-use Rattle.command.proofs.Tables.{Known, ruled, known, unknown-row}
-use Rattle.command.proofs.FirstFault.{first-fault, single-fault}
-
--- ---- sizes
-
-own-words : (b : Bool) → suc (cond b 3 0 + 0) ≡ cond b 4 1
-own-words true = refl
-own-words false = refl
-
--- a command other than a load has its own words alone
-pub size-own : (id h : ℕ) → KnownId id → (id ≡ 0x40 → ⊥) → cond (fourWords (lineOf id)) 4 1 ≡ commandSize id h
-unfolding commandSize payload
-size-own id h i n =
-    let k = known id i in
-    rw (k .own-id, k .length-more, ne-eqb id 0x40 n) (sym (own-words (fourWords (lineOf id))))
-
-pub size-load : (id h : ℕ) → id ≡ 0x40 → 4 + 4 * (h % 512) ≡ commandSize id h
-unfolding commandSize payload rowAt
-size-load id h e = rw (e, div-one) (omega arith)
-
--- ---- the tests
+use Rattle.table.specs.declared.Group.{Group}
+use Rattle.command.specs.declared.Decoded.the-variants.{Command}
+use Rattle.table.specs.Ids.{ofRow, isGroup, groupId}
+use Rattle.table.specs.Tables.{more, timerRow, clipRow, rowNumber, rowAt, rowMasks}
+use Rattle.command.specs.Faults.{firstRefusal, found, own}
+use Rattle.command.specs.Faults.{none as noFault}
+use Rattle.command.specs.View.{groupAt, sizeAt, refusedAt, view, decodedAt, KnownAt}
+use Rattle.table.proofs.Tables.{Known, ruled, known, known-row, unknown-row}
+use Rattle.command.proofs.FirstFault.{first-fault, first-near, single-fault}
 
 not-found : (f : Refusal) → found f ≡ true → f .number ≡ 0 → ⊥
 not-found f e z = let y : _≡_ {A = Bool} false true = ap (λ (n : ℕ). not (eqb n 0)) (sym z) ∙ e in let x : _≡_ {A = ℕ} 0 1 = cc in omega arith
@@ -50,161 +34,205 @@ not-found f e z = let y : _≡_ {A = Bool} false true = ap (λ (n : ℕ). not (e
 none-found : (f : Refusal) → found f ≡ false → f .number ≡ 0
 none-found f e = eqb-true (f .number) 0 (not-false _ e)
 
--- the first fault of the command at a position
-unfoldable pub firstAt : List ℕ → ℕ → Refusal
-firstAt l at = firstRefusal (faults (rowAt (idOf (getD l at 0))) (headerOf (getD l at 0)) (own (rowAt (idOf (getD l at 0))) (groupAt l at)))
+-- a group's words after the first
+pub group-words : (l : List ℕ) (at : ℕ) → at + 4 ≤ length l → take 3 (drop (suc at) l) ≡ more (groupAt l at)
+group-words l at h =
+    ap (take 3) (drop-cons l (suc at) 0 (omega arith) ∙ ap (λ (x : List ℕ). getD l (suc at) 0 ∷ x)
+    (drop-cons l (suc (suc at)) 0 (omega arith) ∙ ap (λ (x : List ℕ). getD l (suc (suc at)) 0 ∷ x) (drop-cons l (suc (suc (suc at))) 0 (omega arith))))
+    ∙ rw (add-one, add-two, add-three)
 
-pub first-at : (l : List ℕ) (at i : ℕ) (g : Group) (f : Refusal) → i ≡ idOf (getD l at 0) → g ≡ groupAt l at
-    → f ≡ firstRefusal (faults (rowAt i) (g .header) (own (rowAt i) g)) → f ≡ firstAt l at
-unfolding firstAt
-first-at l at i g f ei eg ef = ef ∙ ap₂ (λ (j : ℕ) (x : Group). firstRefusal (faults (rowAt j) (x .header) (own (rowAt j) x))) ei eg
+-- a command with rules on its values has four words, so one of one word is no load
+no-load : (id : ℕ) → ruled id ≡ false → id ≡ 0x40 → ⊥
+no-load id r e =
+    let z : _≡_ {A = Bool} true false = ap ruled (sym e) ∙ r in
+    let y : _≡_ {A = ℕ} 0 1 = cc in
+    omega arith
 
-pub first-found : (l : List ℕ) (at i : ℕ) (g : Group) (b : Bool) → i ≡ idOf (getD l at 0) → g ≡ groupAt l at
-    → b ≡ found (firstRefusal (faults (rowAt i) (g .header) (own (rowAt i) g))) → b ≡ found (firstAt l at)
-first-found l at i g b ei eg eb = eb ∙ ap found (first-at l at i g (firstRefusal (faults (rowAt i) (g .header) (own (rowAt i) g))) ei eg refl)
+few : (id h : ℕ) (own : List ℕ) → payload id h own ≤ 2044
+unfolding payload
+few id h own = elim (eqb id 0x40) as (λ t. cond t (4 * (h / 2 ^ 0 % 2 ^ 9)) 0 ≤ 2044) [ true ↦ omega arith | false ↦ omega arith ]
 
-module _ (l : List ℕ) (at : ℕ) (small : idOf (getD l at 0) < 256) where
-  abbrev id : ℕ
-  id = idOf (getD l at 0)
+pub payload-few : (n id h : ℕ) (own : List ℕ) → n ≡ payload id h own → n ≤ 2044
+payload-few n id h own e = omega (arith, few id h own)
 
+pub fault-near : (r : Row) (g : Group) (f : Refusal) → f ≡ firstRefusal (faults r (g .header) (own r g)) → f .word ≤ 6
+fault-near r g f e =
+    let n = first-near (3 + length (own r g)) (faults r (g .header) (own r g)) (faults-proper r (g .header) (own r g)) in
+    omega (arith, ap (λ (x : Refusal). x .word) e, length-take (length (r .more)) (more g))
+
+module _ (l : List ℕ) (at id : ℕ) (ei : id ≡ idOf (getD l at 0)) (small : id < 256) where
   abbrev h : ℕ
   h = headerOf (getD l at 0)
 
+  abbrev ws : List ℕ
+  ws = drop (suc at) l
+
+  -- ---- sizes
+
+  pub size-known : Known id → sizeAt l at ≡ suc (restSize (rowAt id) (headerOf (getD l at 0)) (drop (suc at) l))
+  unfolding commandSize
+  size-known k = rw (← ei, k .found)
+
+  by-group : (o : Option Row) → rowOf id ≡ o → ofRow isGroup o ≡ true → Known id
+  by-group none e g = let z : _≡_ {A = Bool} false true = g in let y : _≡_ {A = ℕ} 0 1 = cc in absurd (omega arith)
+  by-group (some r) e g = known-row id small r e
+
+  pub size-group : groupId id ≡ true → at + 4 ≤ length l → sizeAt l at ≡ 4 + payload id (headerOf (getD l at 0)) (more (groupAt l at))
+  unfolding groupId
+  size-group g f =
+      let k = by-group (rowOf id) refl g in
+      let n : length (rowAt id .more) ≡ 3 = k .length-more ∙ ap (λ (b : Bool). cond b 3 0) g in
+      size-known k ∙ rw (n, group-words l at f, k .own-id) (omega arith)
+
+  by-single : (o : Option Row) → rowOf id ≡ o → groupId id ≡ false → sizeAt l at ≡ 1
+  unfolding commandSize payload
+  by-single none e g = rw (← ei, e)
+  by-single (some r) e g =
+      let k = known-row id small r e in
+      let n : length (rowAt id .more) ≡ 0 = k .length-more ∙ ap (λ (b : Bool). cond b 3 0) g in
+      size-known k ∙ rw (n, k .own-id, ne-eqb id 0x40 (no-load id (k .one-word g)))
+
+  pub size-single : groupId id ≡ false → sizeAt l at ≡ 1
+  size-single g = by-single (rowOf id) refl g
+
+  -- ---- refusals
+
   -- 3 and 4
-  pub decoded-unknown : 16 ≤ lineOf (idOf (getD l at 0)) → decodedAt l at ≡ Refused (unknown (idOf (getD l at 0))) at
+  pub decoded-unknown : 16 ≤ rowNumber id → decodedAt l at ≡ refusedAt (unknown id) at
   unfolding decodedAt decode
-  decoded-unknown line = rw (unknown-row id small line, add-zero at)
+  decoded-unknown n =
+      let e : rowOf (idOf (getD l at 0)) ≡ none = ap rowOf (sym ei) ∙ unknown-row id small n in
+      rw (e, add-zero at) (ap (λ (i : ℕ). refusedAt (unknown i) at) (sym ei))
 
-  module _ (line : lineOf (idOf (getD l at 0)) < 16) where
-    k : Known id
-    k = known id (record { small = small; line = line })
-
-    row-decoded : decodedAt l at ≡ view at (decodeRow (rowAt id) h (drop (suc at) l))
+  module _ (k : Known id) where
+    row-decoded : decodedAt l at ≡ view at (decodeRow (rowAt id) h ws)
     unfolding decodedAt decode
-    row-decoded = rw (k .found)
+    row-decoded = rw (← ei, k .found)
 
     own-length : (b : Bool) → length (rowAt id .more) ≡ cond b 3 0 → suc (length (rowAt id .more)) ≡ cond b 4 1
     own-length true e = omega arith
     own-length false e = omega arith
 
     -- 5
-    pub decoded-cut : at < length l → length l - at < cond (fourWords (lineOf (idOf (getD l at 0)))) 4 1 → decodedAt l at ≡ Refused 5 at
+    pub decoded-cut : at < length l → length l - at < cond (groupId id) 4 1 → decodedAt l at ≡ refusedAt 5 at
     unfolding decodeRow
     decoded-cut inside cut =
-        let n = own-length (fourWords (lineOf id)) (k .length-more) in
-        row-decoded ∙ rw (lt-ltb (length (drop (suc at) l)) (length (rowAt id .more)) (omega (arith, length-drop (suc at) l)), add-zero at)
+        let n = own-length (groupId id) (k .length-more) in
+        row-decoded ∙ rw (lt-ltb (length ws) (length (rowAt id .more)) (omega (arith, length-drop (suc at) l)), add-zero at)
 
-    module _ (inside : at < length l) (fits : at + cond (fourWords (lineOf (idOf (getD l at 0)))) 4 1 ≤ length l) where
-      -- the command's own words are those of the group
-      own-at : (b : Bool) → length (rowAt id .more) ≡ cond b 3 0 → at + cond b 4 1 ≤ length l
-          → take (length (rowAt id .more)) (drop (suc at) l) ≡ own (rowAt id) (groupAt l at)
-      own-at true e f =
-          rw e
-          (ap (take 3) (drop-cons l (suc at) 0 (omega arith) ∙ ap (λ (x : List ℕ). getD l (suc at) 0 ∷ x)
-          (drop-cons l (suc (suc at)) 0 (omega arith) ∙ ap (λ (x : List ℕ). getD l (suc (suc at)) 0 ∷ x) (drop-cons l (suc (suc (suc at))) 0 (omega arith))))
-          ∙ rw (add-one, add-two, add-three))
+    module _ (fits : at + cond (groupId id) 4 1 ≤ length l) where
+      -- the first fault of the command
+      unfoldable pub firstAt : Refusal
+      firstAt = firstRefusal (faults (rowAt id) (headerOf (getD l at 0)) (own (rowAt id) (groupAt l at)))
+
+      own-at : (b : Bool) → length (rowAt id .more) ≡ cond b 3 0 → at + cond b 4 1 ≤ length l → take (length (rowAt id .more)) ws ≡ own (rowAt id) (groupAt l at)
+      own-at true e f = rw e (group-words l at f)
       own-at false e f = rw e
-
-      abbrev first : Refusal
-      first = firstAt l at
 
       abbrev whole : Decoded
       whole =
-          cond (ltb (length (drop (suc at) l)) (length (moreMasks (rowAt id) h) + payload (rowAt id .id) h)) (bad (refusal 9 0))
-          (good (record { row = rowAt id; header = h; rest = take (length (moreMasks (rowAt id) h) + payload (rowAt id .id) h) (drop (suc at) l) }))
+          cond (ltb (length ws) (restSize (rowAt id) h ws)) (bad (refusal 9 0)) (good (record { row = rowAt id; header = h; rest = take (restSize (rowAt id) h ws) ws }))
 
-      by-fault : decodedAt l at ≡ view at (cond (eqb (first .number) 0) whole (bad first))
+      by-fault : decodedAt l at ≡ view at (cond (eqb (firstAt .number) 0) whole (bad firstAt))
       unfolding decodeRow firstAt
       by-fault =
-          let n = own-length (fourWords (lineOf id)) (k .length-more) in
+          let n = own-length (groupId id) (k .length-more) in
+          let fs = faults (rowAt id) h (own (rowAt id) (groupAt l at)) in
           row-decoded
-          ∙ rw (
-            le-ltb (length (drop (suc at) l)) (length (rowAt id .more)) (omega (arith, length-drop (suc at) l)),
-            own-at (fourWords (lineOf id)) (k .length-more) fits,
-          )
-          (ap (view at) (first-fault _ (faults (rowAt id) h (own (rowAt id) (groupAt l at))) whole (faults-proper (rowAt id) h (own (rowAt id) (groupAt l at)))))
+          ∙ ap (λ (t : Bool). view at (cond t (bad (refusal 5 0)) (firstFault (faults (rowAt id) h (take (length (rowAt id .more)) ws)) whole)))
+          (le-ltb (length ws) (length (rowAt id .more)) (omega (arith, length-drop (suc at) l)))
+          ∙ ap (λ (o : List ℕ). view at (firstFault (faults (rowAt id) h o) whole)) (own-at (groupId id) (k .length-more) fits)
+          ∙ ap (view at) (first-fault _ fs whole (faults-proper (rowAt id) h (own (rowAt id) (groupAt l at))))
 
       -- 6, 7 and 8
-      pub decoded-fault : found (firstAt l at) ≡ true → decodedAt l at ≡ Refused (first .number) (at + first .word)
-      decoded-fault e = by-fault ∙ rw (ne-eqb (first .number) 0 (not-found first e))
+      pub decoded-fault : found firstAt ≡ true → decodedAt l at ≡ refusedAt (firstAt .number) (at + firstAt .word)
+      decoded-fault e = by-fault ∙ rw (ne-eqb (firstAt .number) 0 (not-found firstAt e))
 
-      module _ (clear : found (firstAt l at) ≡ false) where
+      module _ (clear : found firstAt ≡ false) where
         no-fault : decodedAt l at ≡ view at whole
-        no-fault = by-fault ∙ rw (eq-eqb (first .number) 0 (none-found first clear))
+        no-fault = by-fault ∙ rw (eq-eqb (firstAt .number) 0 (none-found firstAt clear))
 
         -- 9
-        pub decoded-short : length l - at < commandSize (idOf (getD l at 0)) (headerOf (getD l at 0)) → decodedAt l at ≡ Refused 9 at
-        unfolding commandSize
+        pub decoded-short : length l - at < sizeAt l at → decodedAt l at ≡ refusedAt 9 at
         decoded-short cut =
-            no-fault ∙ rw (lt-ltb (length (drop (suc at) l)) (length (moreMasks (rowAt id) h) + payload (rowAt id .id) h) (omega (arith, length-drop (suc at) l)), add-zero at)
+            let e : sizeAt l at ≡ suc (restSize (rowAt id) h ws) = size-known k in
+            let o = own-length (groupId id) (k .length-more) in
+            no-fault ∙ rw (lt-ltb (length ws) (restSize (rowAt id) h ws) (omega (arith, length-drop (suc at) l)), add-zero at)
 
-        pub decoded-command : commandSize (idOf (getD l at 0)) (headerOf (getD l at 0)) ≤ length l - at
-            → decodedAt l at ≡ Command (record { id = idOf (getD l at 0); row = lineOf (idOf (getD l at 0)); words = commandSize (idOf (getD l at 0)) (headerOf (getD l at 0)); setting = isSetting (rowAt (idOf (getD l at 0)) .kind) })
-        unfolding commandSize
+        pub decoded-command : sizeAt l at ≤ length l - at
+            → decodedAt l at ≡ Command (record { words = sizeAt l at; setting = isSetting (rowAt id .kind); row = rowNumber id })
         decoded-command enough =
-            let n : ℕ = length (moreMasks (rowAt id) h) + payload (rowAt id .id) h in
-            let f : n ≤ length (drop (suc at) l) = omega (arith, length-drop (suc at) l) in
-            no-fault ∙ rw (le-ltb (length (drop (suc at) l)) n f, length-take-le n (drop (suc at) l) f, k .own-id)
+            let n : ℕ = restSize (rowAt id) h ws in
+            let e : sizeAt l at ≡ suc n = size-known k in
+            let o = own-length (groupId id) (k .length-more) in
+            let f : n ≤ length ws = omega (arith, length-drop (suc at) l) in
+            no-fault ∙ rw (le-ltb (length ws) n f)
+            (ap₂ (λ (m i : ℕ). Command (record { words = m; setting = isSetting (rowAt id .kind); row = rowNumber i })) (ap suc (length-take-le n ws f) ∙ sym e) (k .own-id))
 
--- ---- kinds
+-- ---- a command of one word
 
-kind-of : (b : Bool) (n : ℕ) → not (eqb (cond b (cond (eqb n 0) 1 2) 0) 0) ≡ b
-kind-of true n = elim (eqb n 0) as (λ t. not (eqb (cond t 1 2) 0) ≡ true) [ true ↦ refl | false ↦ refl ]
-kind-of false n = refl
+module _ (l : List ℕ) (at id row : ℕ) (a : KnownAt l at id row) (small : id < 256) (single : groupId id ≡ false) where
+  k₁ : Known id
+  k₁ = known id small (omega (arith, a .row-is, a .known))
 
-pub kind-setting : (r : Row) → not (eqb (settingKind r) 0) ≡ isSetting (r .kind)
-kind-setting r = kind-of (isSetting (r .kind)) (length (r .more))
+  fits-one : at + cond (groupId id) 4 1 ≤ length l
+  fits-one = rw single (omega (arith, a .inside))
 
-group-of : (b : Bool) → eqb (cond b 2 0) 2 ≡ b
-group-of true = refl
-group-of false = refl
-
--- a setting of four words
-pub kind-group : (id : ℕ) → KnownId id → fourWords (lineOf id) ≡ true → eqb (settingKind (rowAt id)) 2 ≡ isSetting (rowAt id .kind)
-kind-group id i f = let k = known id i in rw (k .length-more, f) (group-of (isSetting (rowAt id .kind)))
-
--- the first fault of a command of one word
-first-single : (l : List ℕ) (at : ℕ) (masks : List ℕ) (i : KnownId (idOf (getD l at 0))) → fourWords (lineOf (idOf (getD l at 0))) ≡ false → masks ≡ maskTable
-    → firstAt l at ≡ cond (undefined (headerOf (getD l at 0)) (getD masks (lineOf (idOf (getD l at 0)) * 4) 0)) (refusal 6 0) none
-unfolding firstAt
-first-single l at masks i f e =
-    let k = known _ i in
-    rw (k .length-more, f) (single-fault _ _ masks i f e)
-
--- and it is no load
-single-id : (id : ℕ) → KnownId id → fourWords (lineOf id) ≡ false → id ≡ 0x40 → ⊥
-single-id id i f e =
-    let k = known id i in
-    let r : ruled 0x40 ≡ false = ap ruled (sym e) ∙ k .one-word f in
-    let z : _≡_ {A = Bool} true false = r in
-    let y : _≡_ {A = ℕ} 0 1 = cc in
-    omega arith
-
--- a command of one word, by its first fault
-module _ (l : List ℕ) (at : ℕ) (small : idOf (getD l at 0) < 256) (line : lineOf (idOf (getD l at 0)) < 16) (inside : at < length l)
-    (single : fourWords (lineOf (idOf (getD l at 0))) ≡ false) where
-  fits-one : at + cond (fourWords (lineOf (idOf (getD l at 0)))) 4 1 ≤ length l
-  fits-one = rw single (omega arith)
-
-  one-size : commandSize (idOf (getD l at 0)) (headerOf (getD l at 0)) ≡ 1
-  one-size =
-      let i : KnownId (idOf (getD l at 0)) = record { small = small; line = line } in
-      sym (size-own _ _ i (single-id _ i single)) ∙ rw single
-
-  module _ (masks : List ℕ) (e : masks ≡ maskTable) where
-    abbrev bit : Bool
-    bit = undefined (headerOf (getD l at 0)) (getD masks (lineOf (idOf (getD l at 0)) * 4) 0)
-
-    by-bit : firstAt l at ≡ cond bit (refusal 6 0) none
-    by-bit = first-single l at masks (record { small = small; line = line }) single e
+  module _ (header : ℕ) (m : Group) (b : Bool) (eh : header ≡ headerOf (getD l at 0)) (em : m ≡ rowMasks row) (eb : b ≡ undefined header (m .header)) where
+    by-bit : firstAt l at id (a .id-is) small k₁ fits-one ≡ cond b (refusal 6 0) noFault
+    unfolding firstAt
+    by-bit = rw (k₁ .length-more, single, eb, eh, em, a .row-is) (single-fault id (headerOf (getD l at 0)) k₁ single)
 
     -- 6
-    pub decoded-single-bad : undefined (headerOf (getD l at 0)) (getD masks (lineOf (idOf (getD l at 0)) * 4) 0) ≡ true → decodedAt l at ≡ Refused 6 at
+    pub decoded-single-bad : b ≡ true → decodedAt l at ≡ refusedAt 6 at
     decoded-single-bad t =
-        let six : firstAt l at ≡ refusal 6 0 = by-bit ∙ ap (λ (b : Bool). cond b (refusal 6 0) none) t in
-        decoded-fault l at small line inside fits-one (ap found six) ∙ rw (six, add-zero at)
+        let six : firstAt l at id (a .id-is) small k₁ fits-one ≡ refusal 6 0 = by-bit ∙ ap (λ (x : Bool). cond x (refusal 6 0) noFault) t in
+        decoded-fault l at id (a .id-is) small k₁ fits-one (ap found six) ∙ rw (six, add-zero at)
 
-    pub decoded-single : undefined (headerOf (getD l at 0)) (getD masks (lineOf (idOf (getD l at 0)) * 4) 0) ≡ false
-        → decodedAt l at ≡ Command (record { id = idOf (getD l at 0); row = lineOf (idOf (getD l at 0)); words = 1; setting = isSetting (rowAt (idOf (getD l at 0)) .kind) })
+    pub decoded-single : b ≡ false → decodedAt l at ≡ Command (record { words = 1; setting = leb timerRow row; row = row })
     decoded-single t =
-        decoded-command l at small line inside fits-one (ap found (by-bit ∙ ap (λ (b : Bool). cond b (refusal 6 0) none) t)) (omega (arith, one-size)) ∙ rw one-size
+        let one = size-single l at id (a .id-is) small single in
+        decoded-command l at id (a .id-is) small k₁ fits-one (ap found (by-bit ∙ ap (λ (x : Bool). cond x (refusal 6 0) noFault) t)) (omega (arith, a .inside))
+        ∙ rw (one, k₁ .setting-row, single, a .row-is)
+
+-- ---- a command of four
+
+module _ (l : List ℕ) (at id row : ℕ) (a : KnownAt l at id row) (small : id < 256) (group : groupId id ≡ true) where
+  k₄ : Known id
+  k₄ = known id small (omega (arith, a .row-is, a .known))
+
+  -- 5
+  pub group-cut : length l - at < 4 → decodedAt l at ≡ refusedAt 5 at
+  group-cut c = decoded-cut l at id (a .id-is) small k₄ (a .inside) (rw group c)
+
+  module _ (four : 4 ≤ length l - at) (g : Group) (eg : g ≡ groupAt l at) where
+    fits-four : at + cond (groupId id) 4 1 ≤ length l
+    fits-four = rw group (omega (arith, a .inside))
+
+    first-is : firstRefusal (faults (rowAt id) (g .header) (own (rowAt id) g)) ≡ firstAt l at id (a .id-is) small k₄ fits-four
+    unfolding firstAt
+    first-is = ap (λ (x : Group). firstRefusal (faults (rowAt id) (x .header) (own (rowAt id) x))) eg
+
+    module _ (b : Bool) (eb : b ≡ found (firstRefusal (faults (rowAt id) (g .header) (own (rowAt id) g)))) where
+      -- 6 to 8
+      pub group-fault : b ≡ true → (f : Refusal) → f ≡ firstRefusal (faults (rowAt id) (g .header) (own (rowAt id) g)) → decodedAt l at ≡ refusedAt (f .number) (at + f .word)
+      group-fault t f ef =
+          decoded-fault l at id (a .id-is) small k₄ fits-four (ap found (sym first-is) ∙ sym eb ∙ t)
+          ∙ ap (λ (x : Refusal). refusedAt (x .number) (at + x .word)) (sym (ef ∙ first-is))
+
+      module _ (t : b ≡ false) (n : ℕ) (en : n ≡ payload id (g .header) (more g)) where
+        clear : found (firstAt l at id (a .id-is) small k₄ fits-four) ≡ false
+        clear = ap found (sym first-is) ∙ sym eb ∙ t
+
+        size-is : sizeAt l at ≡ 4 + n
+        size-is =
+            size-group l at id (a .id-is) small group (omega (arith, a .inside))
+            ∙ ap (λ (x : ℕ). 4 + x) (sym (en ∙ ap (λ (x : Group). payload id (x .header) (more x)) eg))
+
+        -- 9
+        pub group-short : length l - at < 4 + n → decodedAt l at ≡ refusedAt 9 at
+        group-short c = decoded-short l at id (a .id-is) small k₄ fits-four clear (omega (arith, size-is))
+
+        pub group-done : 4 + n ≤ length l - at → decodedAt l at ≡ Command (record { words = 4 + n; setting = leb clipRow row; row = row })
+        group-done c =
+            decoded-command l at id (a .id-is) small k₄ fits-four clear (omega (arith, size-is)) ∙ rw (size-is, k₄ .setting-row, group, a .row-is)

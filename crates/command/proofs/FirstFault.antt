@@ -1,5 +1,5 @@
--- The first fault of a command, from the lent masks.
-use Prim.Native.Nat.{ℕ, zero, suc, _+_, _*_, _-_, _/_, _%_, _^_, _<_}
+-- The first fault of a command, from the masks of its row.
+use Prim.Native.Nat.{ℕ, zero, suc, _+_, _*_, _-_, _/_, _%_, _^_, _≤_, _<_}
 use native.Mathlib.Nat.{pow-suc}
 use native.Mathlib.Omega.{arith}
 use mathlib.Core.Path.{_≡_, refl, ap, ap₂, sym, _∙_}
@@ -16,10 +16,12 @@ use Rattle.rules.specs.Values.{refusal, Fault, undefinedFaults, valueFaults, fa
 use Rattle.rules.specs.Decode.{Decoded, bad, firstFault}
 use Rattle.rules.proofs.Bools.{and-left, and-right}
 use Rattle.rules.proofs.Numbers.{AllProper}
-use Rattle.command.specs.declared.Group.{Group}
-use Rattle.command.specs.Tables.{lineOf, rowAt, maskOf, maskTable, fourWords, KnownId}
+use Rattle.table.specs.declared.Group.{Group}
+use Rattle.table.specs.Ids.{groupId}
+use Rattle.table.specs.Tables.{rowNumber, rowAt, maskOf, rowMasks}
+use Rattle.table.specs.Tables.{more}
 use Rattle.command.specs.Faults.{firstRefusal, found, none, four, own}
-use Rattle.command.proofs.Tables.{Known, ruled, known}
+use Rattle.table.proofs.Tables.{Known, ruled}
 
 -- every bit is defined under the mask of all bits
 ones : (k w : ℕ) → lowest k w (2 ^ k - 1) ≡ k
@@ -75,19 +77,17 @@ module _ (r : Row) (h a b c : ℕ) (m₀ m₁ m₂ m₃ : ℕ) where
   by-masks (x ∷ y ∷ z ∷ w ∷ rest) em e true l n = absurd (omega arith)
   by-masks (x ∷ y ∷ z ∷ w ∷ rest) em e false l n = absurd (omega arith)
 
--- the masks of an id's row in the lent table give the first fault of its command
-pub fault-is : (id row : ℕ) (g : Group) (l : List ℕ) → KnownId id → row ≡ lineOf id → l ≡ maskTable
-    → four 6 (undefined (g .header) (getD l (row * 4) 0)) (undefined (g .second) (getD l (row * 4 + 1) 0))
-    (undefined (g .third) (getD l (row * 4 + 2) 0)) (undefined (g .fourth) (getD l (row * 4 + 3) 0))
-    (firstRefusal (valueFaults id (g .header) (g .second ∷ g .third ∷ g .fourth ∷ [])))
-    ≡ firstRefusal (faults (rowAt id) (g .header) (own (rowAt id) g))
-fault-is id row g l i r e =
-    let k = known id i in
-    rw (e, r)
-    (ap (λ (j : ℕ). four 6 (undefined (g .header) (getD maskTable (lineOf id * 4) 0)) (undefined (g .second) (getD maskTable (lineOf id * 4 + 1) 0))
-    (undefined (g .third) (getD maskTable (lineOf id * 4 + 2) 0)) (undefined (g .fourth) (getD maskTable (lineOf id * 4 + 3) 0))
-    (firstRefusal (valueFaults j (g .header) (g .second ∷ g .third ∷ g .fourth ∷ [])))) (sym (k .own-id))
-    ∙ by-masks (rowAt id) (g .header) (g .second) (g .third) (g .fourth) _ _ _ _ (rowAt id .more) refl (k .masks) (fourWords (lineOf id)) (k .length-more)
+-- four words against the masks of an id's row, then the rules on values
+abbrev pub masked : Group → Group → (Bool → Bool → Bool → Bool → Refusal → Refusal) → Refusal → Refusal
+masked g m f next = f (undefined (g .header) (m .header)) (undefined (g .second) (m .second)) (undefined (g .third) (m .third)) (undefined (g .fourth) (m .fourth)) next
+
+-- they give the first fault of its command
+pub fault-is : (id : ℕ) (g m : Group) → Known id → m ≡ rowMasks (rowNumber id)
+    → masked g m (four 6) (firstRefusal (valueFaults id (g .header) (more g))) ≡ firstRefusal (faults (rowAt id) (g .header) (own (rowAt id) g))
+fault-is id g m k e =
+    rw e
+    (ap (λ (j : ℕ). masked g (rowMasks (rowNumber id)) (four 6) (firstRefusal (valueFaults j (g .header) (more g)))) (sym (k .own-id))
+    ∙ by-masks (rowAt id) (g .header) (g .second) (g .third) (g .fourth) _ _ _ _ (rowAt id .more) refl (k .masks) (groupId id) (k .length-more)
     (λ f. ap ruled (k .own-id) ∙ k .one-word f))
 
 -- a fault among four words, or a later one
@@ -99,15 +99,12 @@ found-four false false false true next = refl
 found-four false false false false next = refl
 
 -- whether there is one
-pub faulty-is : (id row : ℕ) (g : Group) (l : List ℕ) → KnownId id → row ≡ lineOf id → l ≡ maskTable
-    → ((undefined (g .header) (getD l (row * 4) 0) || undefined (g .second) (getD l (row * 4 + 1) 0))
-    || (undefined (g .third) (getD l (row * 4 + 2) 0) || undefined (g .fourth) (getD l (row * 4 + 3) 0)))
-    || found (firstRefusal (valueFaults id (g .header) (g .second ∷ g .third ∷ g .fourth ∷ [])))
-    ≡ found (firstRefusal (faults (rowAt id) (g .header) (own (rowAt id) g)))
-faulty-is id row g l i r e =
-    found-four (undefined (g .header) (getD l (row * 4) 0)) (undefined (g .second) (getD l (row * 4 + 1) 0)) (undefined (g .third) (getD l (row * 4 + 2) 0))
-    (undefined (g .fourth) (getD l (row * 4 + 3) 0)) (firstRefusal (valueFaults id (g .header) (g .second ∷ g .third ∷ g .fourth ∷ [])))
-    ∙ ap found (fault-is id row g l i r e)
+pub faulty-is : (id : ℕ) (g m : Group) → Known id → m ≡ rowMasks (rowNumber id)
+    → ((undefined (g .header) (m .header) || undefined (g .second) (m .second)) || (undefined (g .third) (m .third) || undefined (g .fourth) (m .fourth)))
+    || found (firstRefusal (valueFaults id (g .header) (more g))) ≡ found (firstRefusal (faults (rowAt id) (g .header) (own (rowAt id) g)))
+faulty-is id g m k e =
+    found-four (undefined (g .header) (m .header)) (undefined (g .second) (m .second)) (undefined (g .third) (m .third)) (undefined (g .fourth) (m .fourth))
+    (firstRefusal (valueFaults id (g .header) (more g))) ∙ ap found (fault-is id g m k e)
 
 pub found-any : (a b c d e f : Bool) → ((a || b) || (c || d)) || (e || f) ≡ found (four 7 a b c d (cond e (refusal 8 0) (cond f (refusal 8 0) none)))
 found-any true _ _ _ _ _ = refl
@@ -123,13 +120,12 @@ no-words i [] = refl
 no-words i (m ∷ ms) = refl
 
 -- a command of one word has one rule
-pub single-fault : (id h : ℕ) (l : List ℕ) → KnownId id → fourWords (lineOf id) ≡ false → l ≡ maskTable
-    → firstRefusal (faults (rowAt id) h []) ≡ cond (undefined h (getD l (lineOf id * 4) 0)) (refusal 6 0) none
+pub single-fault : (id h : ℕ) → Known id → groupId id ≡ false
+    → firstRefusal (faults (rowAt id) h []) ≡ cond (undefined h (rowMasks (rowNumber id) .header)) (refusal 6 0) none
 unfolding faults
-single-fault id h l i f e =
-    let k = known id i in
-    let m : getD maskTable (lineOf id * 4) 0 ≡ rowAt id .mask = let q = k .masks in cc in
-    rw (e, m, no-words 1 (rowAt id .more), unruled-values (rowAt id .id) h [] (ap ruled (k .own-id) ∙ k .one-word f))
+single-fault id h k f =
+    let m : rowMasks (rowNumber id) .header ≡ rowAt id .mask = let q = k .masks in cc in
+    rw (m, no-words 1 (rowAt id .more), unruled-values (rowAt id .id) h [] (ap ruled (k .own-id) ∙ k .one-word f))
 
 -- the first fault, and what stands behind the faults
 pub first-fault : (m : ℕ) (fs : List Fault) (d : Decoded) → AllProper m fs
@@ -141,3 +137,12 @@ first-fault m (f ∷ fs) d p =
       | true ↦ ap (λ (b : Bool). cond b d (bad (f .why))) (sym (p .0 .number))
       | false ↦ first-fault m fs d (p .1)
     ])
+
+-- it stands near the command's first word
+pub first-near : (m : ℕ) (fs : List Fault) → AllProper m fs → firstRefusal fs .word ≤ m
+first-near m [] p = omega arith
+first-near m (f ∷ fs) p =
+    elim (f .found) as (λ t. cond t (f .why) (firstRefusal fs) .word ≤ m) [
+      | true ↦ p .0 .near
+      | false ↦ first-near m fs (p .1)
+    ]

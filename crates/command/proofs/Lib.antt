@@ -1,4 +1,3 @@
 pub mod Masked
-pub mod Tables
 pub mod FirstFault
 pub mod Decoding

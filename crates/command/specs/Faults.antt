@@ -7,7 +7,7 @@ use lib.ListN.{length, take}
 use Rattle.rules.specs.declared.Refusal.{Refusal}
 use Rattle.rules.specs.Table.{Row}
 use Rattle.rules.specs.Values.{refusal, Fault}
-use Rattle.command.specs.declared.Group.{Group}
+use Rattle.table.specs.declared.Group.{Group}
 use Rattle.command.specs.declared.Faults.{Faults}
 
 abbrev pub none : Refusal

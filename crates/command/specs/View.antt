@@ -1,35 +1,47 @@
 -- The command at a position of a list, as the code has it.
-use Prim.Native.Nat.{ℕ, suc, _+_, _<_}
+use Prim.Native.Nat.{ℕ, suc, _+_, _≤_, _<_}
 use mathlib.Core.Path.{_≡_}
-use mathlib.Core.List.{List, []}
+use mathlib.Core.Bool.{true}
+use mathlib.Core.List.{List, [], _∷_}
 use lib.ListN.{length, getD, drop}
 use Rattle.rules.specs.Word.{idOf, headerOf}
 use Rattle.rules.specs.Table.{isSetting}
-use Rattle.rules.specs.Command.{moreMasks, payload}
-use Rattle.rules.specs.Decode.{Decoded, bad, good, decodeRow, decode}
-use Rattle.command.specs.declared.Group.{Group}
+use Rattle.rules.specs.Command.{commandSize}
+use Rattle.rules.specs.Values.{refusal}
+use Rattle.rules.specs.Decode.{Decoded, bad, good, decode}
+use Rattle.table.specs.declared.Group.{Group}
 use Rattle.command.specs.declared.Decoded.{Decoded as Decoded′}
 use Rattle.command.specs.declared.Decoded.the-variants.{Command, Refused}
-use Rattle.command.specs.Tables.{lineOf, rowAt}
+use Rattle.table.specs.Ids.{groupId}
+use Rattle.table.specs.Tables.{rowNumber}
 
 abbrev pub groupAt : List ℕ → ℕ → Group
 groupAt l at = record { header = headerOf (getD l at 0); second = getD l (at + 1) 0; third = getD l (at + 2) 0; fourth = getD l (at + 3) 0 }
 
--- the words of a command with an id and a header, payload included
-unfoldable pub commandSize : ℕ → ℕ → ℕ
-commandSize id h = suc (length (moreMasks (rowAt id) h) + payload (rowAt id .id) h)
+-- the words of the command at a position, payload included
+abbrev pub sizeAt : List ℕ → ℕ → ℕ
+sizeAt l at = commandSize (getD l at 0) (drop (suc at) l)
 
--- a refusal stands at its word of the list; of a command its id, row, words and kind are kept
+-- a command's own words stand at a position
+pub record OwnAt (l : List ℕ) (at : ℕ) : Type 0 where
+  pub inside : at < length l
+  pub group : groupId (idOf (getD l at 0)) ≡ true → at + 4 ≤ length l
+
+abbrev pub refusedAt : ℕ → ℕ → Decoded′
+refusedAt n p = Refused (refusal n p)
+
+-- a refusal stands at its word of the list; of a command its words, its kind and its row are kept
 abbrev pub view : ℕ → Decoded → Decoded′
-view at (bad f) = Refused (f .number) (at + f .word)
-view at (good c) = Command (record { id = c .row .id; row = lineOf (c .row .id); words = suc (length (c .rest)); setting = isSetting (c .row .kind) })
+view at (bad f) = refusedAt (f .number) (at + f .word)
+view at (good c) = Command (record { words = suc (length (c .rest)); setting = isSetting (c .row .kind); row = rowNumber (c .row .id) })
 
 -- refusals 3 to 9 of the command at a position, or the command
 unfoldable pub decodedAt : List ℕ → ℕ → Decoded′
 decodedAt l at = view at (decode (getD l at 0) (drop (suc at) l))
 
--- a known command stands at a position, and its id has the given row
-pub record DecodesAt (l : List ℕ) (at row : ℕ) : Type 0 where
+-- a known command stands at a position, with its id and its row
+pub record KnownAt (l : List ℕ) (at id row : ℕ) : Type 0 where
   pub inside : at < length l
-  pub row-is : row ≡ lineOf (idOf (getD l at 0))
-  pub known : lineOf (idOf (getD l at 0)) < 16
+  pub id-is : id ≡ idOf (getD l at 0)
+  pub row-is : row ≡ rowNumber id
+  pub known : row < 16

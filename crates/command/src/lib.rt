@@ -1,28 +1,19 @@
-// One command of a list: its row of the table, the rules on its words, and its decoding.
-//
-// A caller makes the two tables once for a whole list and lends them: a `const` array is built again at each use.
+// One command of a list: its size, the rules on its words, and its decoding.
 use rules::Refusal;
+use table::Group;
 ghost use mathlib.Core.Path.{_≡_};
 ghost use mathlib.Core.Bool.{cond, true, false};
 ghost use mathlib.Core.List.{[], _∷_};
 ghost use Prim.Native.Nat.{_+_, _<_, _≤_};
-ghost use lib.Dec.{eqb};
 ghost use lib.ListN.{length, getD};
-ghost use Rattle.rules.specs.Word.{idOf, headerOf, undefined};
-ghost use Rattle.rules.specs.Table.{isSetting};
+ghost use Rattle.rules.specs.Word.{undefined};
+ghost use Rattle.rules.specs.Command.{payload};
 ghost use Rattle.rules.specs.Values.{refusal, loadFaults, primitiveFaults, clipFaults, rasterFaults, valueFaults, pageLimit, faults};
 ghost use Rattle.rules.specs.Decode.{unknown};
-ghost use Rattle.command.specs.Tables.{lineOf, rowTable, maskTable, rowAt, fourWords, beginId, settingKind, KnownId};
+ghost use Rattle.table.specs.Ids.{groupId};
+ghost use Rattle.table.specs.Tables.{rowNumber, rowTable, rowAt};
 ghost use Rattle.command.specs.Faults.{firstRefusal, found, none, four, firstOf, own};
-ghost use Rattle.command.specs.View.{groupAt, commandSize, decodedAt, DecodesAt};
-
-// The own words of a command of four words: its header, and the next three words.
-pub struct Group {
-    pub header: u32,
-    pub second: u32,
-    pub third: u32,
-    pub fourth: u32,
-}
+ghost use Rattle.command.specs.View.{groupAt, sizeAt, OwnAt, decodedAt, refusedAt, KnownAt};
 
 // The rules on values that a command breaks: an illegal value in each of its words, and two clashes.
 pub struct Faults {
@@ -34,454 +25,54 @@ pub struct Faults {
     pub other_clash: bool,
 }
 
-// A decoded command: its id, the row of its id, its words with payload, and whether it is a setting.
+// A decoded command: its words with payload, whether it is a setting, and its row.
 pub struct Command {
-    pub id: u32,
-    pub row: usize,
     pub words: usize,
     pub setting: bool,
+    pub row: u8,
 }
 
-// A command, or the number and the position of its refusal.
+// A command, or its refusal.
 pub enum Decoded {
     Command(Command),
-    Refused(u32, usize),
+    Refused(Refusal),
 }
 
-// The row of document 01's table that has an id, 16 for an unknown id.
-const ROWS: [u8; 256] = [
-    0,
-    1,
-    2,
-    16,
-    16,
-    3,
-    16,
-    16,
-    4,
-    16,
-    16,
-    16,
-    4,
-    16,
-    16,
-    16,
-    4,
-    16,
-    16,
-    16,
-    4,
-    16,
-    16,
-    16,
-    16,
-    16,
-    16,
-    16,
-    16,
-    16,
-    16,
-    16,
-    5,
-    6,
-    5,
-    6,
-    5,
-    6,
-    7,
-    16,
-    16,
-    16,
-    16,
-    16,
-    16,
-    16,
-    16,
-    16,
-    8,
-    8,
-    16,
-    16,
-    16,
-    16,
-    16,
-    16,
-    16,
-    16,
-    16,
-    16,
-    16,
-    16,
-    16,
-    16,
-    9,
-    16,
-    16,
-    16,
-    16,
-    16,
-    16,
-    16,
-    10,
-    16,
-    16,
-    16,
-    16,
-    16,
-    16,
-    16,
-    16,
-    16,
-    16,
-    16,
-    16,
-    16,
-    16,
-    16,
-    16,
-    16,
-    16,
-    16,
-    16,
-    16,
-    16,
-    16,
-    16,
-    16,
-    16,
-    16,
-    16,
-    16,
-    16,
-    16,
-    16,
-    16,
-    16,
-    16,
-    16,
-    16,
-    16,
-    16,
-    16,
-    16,
-    16,
-    16,
-    16,
-    16,
-    16,
-    16,
-    16,
-    16,
-    16,
-    16,
-    16,
-    16,
-    16,
-    16,
-    16,
-    16,
-    16,
-    16,
-    11,
-    16,
-    16,
-    16,
-    12,
-    16,
-    16,
-    16,
-    13,
-    16,
-    16,
-    16,
-    14,
-    16,
-    16,
-    16,
-    16,
-    16,
-    16,
-    16,
-    16,
-    16,
-    16,
-    16,
-    16,
-    16,
-    16,
-    16,
-    16,
-    16,
-    16,
-    16,
-    16,
-    16,
-    16,
-    16,
-    16,
-    16,
-    16,
-    16,
-    16,
-    16,
-    16,
-    16,
-    16,
-    16,
-    16,
-    16,
-    16,
-    16,
-    16,
-    16,
-    16,
-    16,
-    16,
-    16,
-    16,
-    16,
-    16,
-    16,
-    16,
-    16,
-    16,
-    16,
-    15,
-    16,
-    16,
-    16,
-    16,
-    16,
-    16,
-    16,
-    16,
-    16,
-    16,
-    16,
-    16,
-    16,
-    16,
-    16,
-    16,
-    16,
-    16,
-    16,
-    16,
-    16,
-    16,
-    16,
-    16,
-    16,
-    16,
-    16,
-    16,
-    16,
-    16,
-    16,
-    16,
-    16,
-    16,
-    16,
-    16,
-    16,
-    16,
-    16,
-    16,
-    16,
-    16,
-    16,
-    16,
-    16,
-    16,
-    16,
-    16,
-    16,
-    16,
-    16,
-    16,
-    16,
-    16,
-    16,
-    16,
-    16,
-    16,
-    16,
-];
+// ---- sizes
 
-// The defined bits by row and word; a word that a row does not have has every bit.
-const MASKS: [u32; 64] = [
-    // 00 flush
-    0x00FFFFFF,
-    0xFFFFFFFF,
-    0xFFFFFFFF,
-    0xFFFFFFFF,
-    // 01 reset
-    0x00000714,
-    0xFFFFFFFF,
-    0xFFFFFFFF,
-    0xFFFFFFFF,
-    // 02 timer threshold
-    0x00FFFFFF,
-    0xFFFFFFFF,
-    0xFFFFFFFF,
-    0xFFFFFFFF,
-    // 05 trigger
-    0x00FFFFFF,
-    0xFFFFFFFF,
-    0xFFFFFFFF,
-    0xFFFFFFFF,
-    // 08 0C 10 14 BEGIN
-    0x00FFFFFF,
-    0x803FFFFF,
-    0x0FFFFFFF,
-    0x00000000,
-    // 20 22 24 surface control
-    0x0000000F,
-    0xFFFFFFFF,
-    0xFFFFFFFF,
-    0xFFFFFFFF,
-    // 21 23 25 surface base
-    0x00FFFFFF,
-    0xFFFFFFFF,
-    0xFFFFFFFF,
-    0xFFFFFFFF,
-    // 26 extended base
-    0x008F8F8F,
-    0xFFFFFFFF,
-    0xFFFFFFFF,
-    0xFFFFFFFF,
-    // 30 31 2D overflow
-    0x00FFFFFF,
-    0xFFFFFFFF,
-    0xFFFFFFFF,
-    0xFFFFFFFF,
-    // 40 LOAD_GP
-    0x00F7FDFF,
-    0xFFFFFFFF,
-    0xFFFFFFFF,
-    0xFFFFFFFF,
-    // 48 primitive
-    0x00FFFFFF,
-    0xFFFFFFFF,
-    0xFFFFFFFF,
-    0xFFFFFFFF,
-    // 84 window clip
-    0x00FFFFFF,
-    0x3FFF0FFF,
-    0xFFFFFFFF,
-    0xFFFFFFFF,
-    // 88 raster mode
-    0x00E7FFFF,
-    0x00FFFFFF,
-    0x003FFFFF,
-    0x00FFFFFF,
-    // 8C polygon offset
-    0x00FFFFFF,
-    0xFFFFFFFF,
-    0xFFFFFFFF,
-    0xFFFFFFFF,
-    // 90 depth constants
-    0x00FFFFFF,
-    0x00FFFFFF,
-    0x0FFF0FFF,
-    0x0FFF0FFF,
-    // C4 LOD bias enables
-    0x00000000,
-    0xFFFFFFFF,
-    0xFFFFFFFF,
-    0xFFFFFFFF,
-];
-
-pub fn row_table() -> [u8; 256]
-    ensures { λ r. ⌜ r ≡ rowTable ⌝ }
+// The own words of a group.
+pub fn group_at(list: &[u32], at: usize) -> Group
+    requires { ⌜ at + 4 ≤ length (now list) ⌝ }
+    ensures { λ r. ⌜ r ≡ groupAt (now (list .entry)) at ⌝ }
 {
-    ROWS
+    Group {
+        header: words::header_of(words::fetch(list, at)),
+        second: words::fetch(list, at + 1),
+        third: words::fetch(list, at + 2),
+        fourth: words::fetch(list, at + 3),
+    }
 }
 
-pub fn mask_table() -> [u32; 64]
-    ensures { λ r. ⌜ r ≡ maskTable ⌝ }
-{
-    MASKS
-}
-
-// ---- words and fields
-
-// A word of a list. Whatever stands above gets the words of a list here.
-pub fn fetch(list: &[u32], at: usize) -> u32
-    requires { ⌜ at < length (now list) ⌝ }
-    ensures { λ r. ⌜ r ≡ getD (now (list .entry)) at 0 ⌝ }
-{
-    list[at]
-}
-
-pub fn id_of(word: u32) -> u32
-    ensures { λ r. ⌜ r ≡ idOf word ⌝ }
-{
-    word >> 24
-}
-
-pub fn header_of(word: u32) -> u32
-    ensures { λ r. ⌜ r ≡ headerOf word ⌝ }
-{
-    word % 0x1000000
-}
-
-// ---- ids
-
-pub fn is_begin(id: u32) -> bool
-    ensures { λ r. ⌜ r ≡ beginId id ⌝ }
-{
-    ((id == 0x08) | (id == 0x0C)) | ((id == 0x10) | (id == 0x14))
-}
-
-// A known id whose command has four words.
-fn is_group(id: u32) -> bool
-    requires { ⌜ KnownId id ⌝ }
-    ensures { λ r. ⌜ r ≡ fourWords (lineOf id) ⌝ }
-{
-    (0x40 <= id) | is_begin(id)
-}
-
-// The words of a command, payload included.
-pub fn command_size(id: u32, header: u32) -> usize
-    requires { ⌜ KnownId id ⌝ }
-    ensures { λ r. ⌜ r ≡ commandSize id header ⌝ }
+// The words behind a command's own, as these say.
+fn payload(id: u8, g: Group) -> usize
+    ensures { λ r. ⌜ r ≡ payload id (g .header) (g .second ∷ g .third ∷ g .fourth ∷ []) ⌝ }
 {
     if id == 0x40 {
-        return 4 + 4 * ((header % 512) as usize);
+        return 4 * ((g.header % 512) as usize);
     }
-    if is_group(id) { 4 } else { 1 }
+    0
 }
 
-// The set of the settings' ids, by kind: a known id is that of work, of a setting of one word, or of one of four.
-pub struct Settings {}
-
-impl Settings {
-    pub const WORK: u32 = 0;
-
-    pub const SINGLE: u32 = 1;
-
-    pub const GROUP: u32 = 2;
-
-    pub fn kind(id: u32) -> u32
-        requires { ⌜ KnownId id ⌝ }
-        ensures { λ r. ⌜ r ≡ settingKind (rowAt id) ⌝ }
-    {
-        if 0x84 <= id {
-            return Settings::GROUP;
-        }
-        if ((id == 0x02) | (id == 0x26)) | ((id == 0x30) | (id == 0x31)) {
-            return Settings::SINGLE;
-        }
-        Settings::WORK
+// The words of the command at a position, payload included.
+pub fn command_size(list: &[u32], at: usize) -> usize
+    requires { ⌜ OwnAt (now list) at ⌝ }
+    ensures { λ r. ⌜ r ≡ sizeAt (now (list .entry)) at ⌝ }
+{
+    let id = words::id_of(words::fetch(list, at));
+    if table::is_group(id) {
+        return 4 + payload(id, group_at(list, at));
     }
-
-    pub fn contains(id: u32) -> bool
-        requires { ⌜ KnownId id ⌝ }
-        ensures { λ r. ⌜ r ≡ isSetting (rowAt id .kind) ⌝ }
-    {
-        Settings::kind(id) != Settings::WORK
-    }
+    1
 }
 
 // ---- the rules on a command's words
@@ -569,7 +160,7 @@ fn any(f: Faults) -> bool
 }
 
 // A value is illegal or clashes; which one is asked only on refusal.
-fn bad_values(id: u32, g: Group) -> bool
+fn bad_values(id: u8, g: Group) -> bool
     ensures { λ r. ⌜ r ≡ found (firstRefusal (valueFaults id (g .header) (g .second ∷ g .third ∷ g .fourth ∷ []))) ⌝ }
 {
     match id {
@@ -625,7 +216,7 @@ fn first(f: Faults) -> Refusal
 }
 
 // Refusals 7 and 8.
-fn value_fault(id: u32, g: Group) -> Refusal
+fn value_fault(id: u8, g: Group) -> Refusal
     ensures { λ r. ⌜ r ≡ firstRefusal (valueFaults id (g .header) (g .second ∷ g .third ∷ g .fourth ∷ [])) ⌝ }
 {
     match id {
@@ -638,130 +229,108 @@ fn value_fault(id: u32, g: Group) -> Refusal
 }
 
 // Refusals 6 to 8 of a command of four words.
-fn fault(masks: &[u32; 64], row: usize, id: u32, g: Group) -> Refusal
-    requires { ⌜ KnownId id × (row ≡ lineOf id) × (now masks ≡ maskTable) ⌝ }
+fn fault(row: u8, id: u8, g: Group) -> Refusal
+    requires { ⌜ (row ≡ rowNumber id) × (row < 16) ⌝ }
     ensures { λ r. ⌜ r ≡ firstRefusal (faults (rowAt id) (g .header) (own (rowAt id) g)) ⌝ }
 {
+    let m = table::masks_of(row);
     first_of(
         6,
-        undefined(g.header, masks[row * 4]),
-        undefined(g.second, masks[row * 4 + 1]),
-        undefined(g.third, masks[row * 4 + 2]),
-        undefined(g.fourth, masks[row * 4 + 3]),
+        undefined(g.header, m.header),
+        undefined(g.second, m.second),
+        undefined(g.third, m.third),
+        undefined(g.fourth, m.fourth),
         value_fault(id, g),
     )
 }
 
 // The same, whether there is one: all that an accepted command is asked.
-fn faulty(masks: &[u32; 64], row: usize, id: u32, g: Group) -> bool
-    requires { ⌜ KnownId id × (row ≡ lineOf id) × (now masks ≡ maskTable) ⌝ }
+fn faulty(row: u8, id: u8, g: Group) -> bool
+    requires { ⌜ (row ≡ rowNumber id) × (row < 16) ⌝ }
     ensures { λ r. ⌜ r ≡ found (firstRefusal (faults (rowAt id) (g .header) (own (rowAt id) g))) ⌝ }
 {
-    let a = undefined(g.header, masks[row * 4]);
-    let b = undefined(g.second, masks[row * 4 + 1]);
-    let c = undefined(g.third, masks[row * 4 + 2]);
-    let d = undefined(g.fourth, masks[row * 4 + 3]);
+    let m = table::masks_of(row);
+    let a = undefined(g.header, m.header);
+    let b = undefined(g.second, m.second);
+    let c = undefined(g.third, m.third);
+    let d = undefined(g.fourth, m.fourth);
     ((a | b) | (c | d)) | bad_values(id, g)
 }
 
 // ---- decoding
 
-fn wide(b: u8) -> usize
-    ensures { λ r. ⌜ r ≡ b ⌝ }
+// A refusal of the command at a position, with its word in the list.
+fn refused(number: u32, word: usize) -> Decoded
+    ensures { λ r. ⌜ r ≡ refusedAt number word ⌝ }
 {
-    b as usize
-}
-
-// The row of an id, 16 for an unknown one.
-fn row_of(rows: &[u8; 256], id: u32) -> usize
-    requires { ⌜ (id < 256) × (now rows ≡ rowTable) ⌝ }
-    ensures { λ r. ⌜ r ≡ lineOf id ⌝ }
-{
-    wide(rows[id as usize])
+    Decoded::Refused(Refusal { number, word })
 }
 
 // A command of one word: refusal 6.
-fn decode_single(masks: &[u32; 64], list: &[u32], at: usize, row: usize) -> Decoded
-    requires { ⌜ DecodesAt (now list) at row × (fourWords (lineOf (idOf (getD (now list) at 0))) ≡ false) × (now masks ≡ maskTable) ⌝ }
+fn decode_single(list: &[u32], at: usize, id: u8, row: u8) -> Decoded
+    requires { ⌜ KnownAt (now list) at id row × (groupId id ≡ false) ⌝ }
     ensures { λ r. ⌜ r ≡ decodedAt (now (list .entry)) at ⌝ }
 {
-    let w = fetch(list, at);
-    let id = id_of(w);
-    if undefined(header_of(w), masks[row * 4]) {
-        return Decoded::Refused(6, at);
+    let m = table::masks_of(row);
+    if undefined(words::header_of(words::fetch(list, at)), m.header) {
+        return refused(6, at);
     }
     Decoded::Command(Command {
-        id,
-        row,
         words: 1,
-        setting: Settings::contains(id),
+        setting: table::TIMER <= row,
+        row,
     })
 }
 
-fn group_at(list: &[u32], at: usize) -> Group
-    requires { ⌜ at + 4 ≤ length (now list) ⌝ }
-    ensures { λ r. ⌜ r ≡ groupAt (now (list .entry)) at ⌝ }
-{
-    Group {
-        header: header_of(fetch(list, at)),
-        second: fetch(list, at + 1),
-        third: fetch(list, at + 2),
-        fourth: fetch(list, at + 3),
-    }
-}
-
-// A command of four words and its payload: refusals 5 to 9.
-fn decode_group(masks: &[u32; 64], list: &[u32], at: usize, row: usize) -> Decoded
-    requires { ⌜ DecodesAt (now list) at row × (fourWords (lineOf (idOf (getD (now list) at 0))) ≡ true) × (now masks ≡ maskTable) ⌝ }
+// A command of four words and its payload: refusals 5 to 9. Only where there is payload is the list's end looked for again.
+fn decode_group(list: &[u32], at: usize, id: u8, row: u8) -> Decoded
+    requires { ⌜ KnownAt (now list) at id row × (groupId id ≡ true) ⌝ }
     ensures { λ r. ⌜ r ≡ decodedAt (now (list .entry)) at ⌝ }
 {
     if list.len() - at < 4 {
-        return Decoded::Refused(5, at);
+        return refused(5, at);
     }
-    let id = id_of(fetch(list, at));
     let g = group_at(list, at);
-    if faulty(masks, row, id, g) {
-        let f = fault(masks, row, id, g);
-        return Decoded::Refused(f.number, at + (f.word as usize));
+    if faulty(row, id, g) {
+        let f = fault(row, id, g);
+        return refused(f.number, at + f.word);
     }
-    if id == 0x40 {
-        let words = command_size(id, g.header);
-        if list.len() - at < words {
-            return Decoded::Refused(9, at);
+    let more = payload(id, g);
+    if 0 < more {
+        if list.len() - at < 4 + more {
+            return refused(9, at);
         }
         return Decoded::Command(Command {
-            id,
+            words: 4 + more,
+            setting: table::WINDOW_CLIP <= row,
             row,
-            words,
-            setting: Settings::kind(id) == Settings::GROUP,
         });
     }
     Decoded::Command(Command {
-        id,
-        row,
         words: 4,
-        setting: Settings::kind(id) == Settings::GROUP,
+        setting: table::WINDOW_CLIP <= row,
+        row,
     })
 }
 
-fn unknown(id: u32) -> u32
+fn unknown(id: u8) -> u32
     ensures { λ r. ⌜ r ≡ unknown id ⌝ }
 {
     if (id == 3) | (id == 4) { 4 } else { 3 }
 }
 
-// The command at a position, or its refusal: numbers 3 to 9.
-pub fn decode(rows: &[u8; 256], masks: &[u32; 64], list: &[u32], at: usize) -> Decoded
-    requires { ⌜ (at < length (now list)) × (now rows ≡ rowTable) × (now masks ≡ maskTable) ⌝ }
+// The command at a position, or its refusal: numbers 3 to 9. Each known id from 40 on has a group.
+pub fn decode(rows: &[u8; 256], list: &[u32], at: usize) -> Decoded
+    requires { ⌜ (at < length (now list)) × (now rows ≡ rowTable) ⌝ }
     ensures { λ r. ⌜ r ≡ decodedAt (now (list .entry)) at ⌝ }
 {
-    let id = id_of(fetch(list, at));
-    let row = row_of(rows, id);
-    if 16 <= row {
-        return Decoded::Refused(unknown(id), at);
+    let id = words::id_of(words::fetch(list, at));
+    let row = rows[id as usize];
+    if table::UNKNOWN <= row {
+        return refused(unknown(id), at);
     }
-    if is_group(id) {
-        return decode_group(masks, list, at, row);
+    if (0x40 <= id) | (row == table::BEGIN) {
+        return decode_group(list, at, id, row);
     }
-    decode_single(masks, list, at, row)
+    decode_single(list, at, id, row)
 }

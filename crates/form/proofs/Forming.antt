@@ -1,318 +1,308 @@
 -- The pass over an accepted list: what is written is the form so far, and the rest of the form is to come.
-use Prim.Native.Nat.{ℕ, suc, _+_, _*_, _≤_, _<_}
+use Prim.Native.Nat.{ℕ, zero, suc, _+_, _^_, _≤_, _<_}
 use native.Mathlib.Nat.{zero-add}
 use native.Mathlib.Omega.{arith}
+use native.Mathlib.Decide.{ℕ-discrete}
 use mathlib.Core.Path.{_≡_, refl, ap, ap₂, sym, _∙_, subst}
-use mathlib.Core.Bool.{Bool, true, false, cond}
+use mathlib.Core.Bool.{Bool, true, false, not}
+use mathlib.Core.Logic.{inl, inr}
 use mathlib.Core.List.{List, [], _∷_, _++_, append-assoc, append-nil}
-use lib.ListN.{length, getD, set, take, drop, length-append, drop-of-length-le, take-append-drop}
-use lib.Seq.{sets, take-at, take-all, drop-cons, length-sets, take-append-seam}
+use mathlib.Core.Option.{Option, none, some}
+use lib.Bits.{bitOr}
+use lib.Dec.{eqb}
+use lib.ListN.{length, getD, set, length-append, length-set}
+use lib.Seq.{sets, getD-set-same, getD-set-other}
+use borrow.Author.Tests.{not-true, not-false, eq-eqb, ne-eqb}
+use Rattle.rules.specs.Word.{idOf}
 use Rattle.rules.specs.Table.{Row, size, isSetting, settings}
 use Rattle.rules.specs.Command.{Command, words, wordsAll}
 use Rattle.rules.specs.Walk.{accepted, parse}
+use Rattle.rules.specs.Valid.{Valid, Accepted}
 use Rattle.rules.specs.Image.{apply}
-use Rattle.rules.specs.Form.{equal, differing, formFrom, form}
+use Rattle.rules.specs.Form.{read, differing, formFrom}
 use Rattle.rules.specs.Answer.{commandsOf, normalForm}
-use Rattle.rules.proofs.Rows.{Setting}
-use Rattle.rules.proofs.Valid.{Valid, setting-length, valid-setting}
-use Rattle.rules.proofs.Parse.{Accepted, parse-accepted}
+use Rattle.rules.proofs.Rows.{Setting, settings-apart}
+use Rattle.rules.proofs.Valid.{setting-length, valid-setting}
+use Rattle.rules.proofs.Parse.{parse-accepted}
 use Rattle.rules.proofs.Image.{sets-append}
-use Rattle.rules.proofs.Differing.{Near, near-refl, near-setting, length-apply}
+use Rattle.rules.proofs.Differing.{Near, near-refl, near-setting, length-apply, emit-own, setting-other, work-other}
 use Rattle.rules.proofs.Form.{is-setting, form-nil, form-setting, form-work, form-fits, wordsAll-append}
-use Rattle.command.specs.Tables.{rowAt}
-use Rattle.list.specs.Second.{idAt, headerAt, sizeAt, settingAt, ownAt, CommandAt}
-use Rattle.list.proofs.Turn.{Standing, standing-start, standing-end, Turn, after, turn}
-use Rattle.list.proofs.Playing.{command-at}
-use Rattle.list.proofs.Second.{IsGroup, IsSingle, own-group}
+use Rattle.table.specs.Ids.{settingId, settingKind}
+use Rattle.command.specs.View.{sizeAt}
+use Rattle.table.proofs.Tables.{setting-is}
+use Rattle.list.specs.Effects.{idAt, CommandAt}
+use Rattle.list.proofs.Effects.{no-kind, is-group, is-single}
+use Rattle.list.proofs.Applying.{command-at}
+use Rattle.list.proofs.Position.{Position, position-start, position-end, AtCommand, after, at-command}
 use Rattle.form.specs.declared.Draft.{Draft}
-use Rattle.form.specs.Slots.{settingWords, slotOf, slice, command, segment, segments, due, Settling}
-use Rattle.form.specs.Drafts.{Held, Drafting, currentAfter, afterWork, draftAfter}
-use Rattle.form.proofs.Settings.{words-set, words-work, words-long, due-is}
-
--- ---- a setting's words
-
-pub current-group : (l : List ℕ) (at : ℕ) (h : CommandAt l at) → IsGroup l at h → (current : List ℕ)
-    → currentAfter l at current ≡ sets current (slotOf (idAt l at)) (headerAt l at ∷ getD l (at + 1) 0 ∷ getD l (at + 2) 0 ∷ getD l (at + 3) 0 ∷ [])
-unfolding currentAfter
-current-group l at h g current = ap (λ (x : List ℕ). sets current (slotOf (idAt l at)) (headerAt l at ∷ x)) (own-group l at h g)
-
-pub current-single : (l : List ℕ) (at : ℕ) (h : CommandAt l at) → IsSingle l at h → (current : List ℕ)
-    → currentAfter l at current ≡ set current (slotOf (idAt l at)) (headerAt l at)
-unfolding currentAfter
-current-single l at h g current =
-    let n : ownAt l at ≡ [] = ap (λ (m : ℕ). take m (drop (suc at) l)) (g .more) in
-    ap (λ (x : List ℕ). sets current (slotOf (idAt l at)) (headerAt l at ∷ x)) n
-
--- all of the settings' words are built
-pub settled-all : (current built out : List ℕ) (n n′ : ℕ) (built′ out′ : List ℕ) → length current ≡ 24 → length built ≡ 24
-    → Settling 24 settings current built out n n′ built′ out′ → built′ ≡ current
-settled-all current built out n n′ built′ out′ lc lb s =
-    s .image ∙ ap₂ (λ (x y : List ℕ). x ++ y) (take-all 24 current (omega arith)) (drop-of-length-le built {i = 24} (omega arith)) ∙ append-nil current
-
--- what is due is at most the settings' words
-segment-short : (id : ℕ) (x y : List ℕ) → length (segment id x y) ≤ length x
-unfolding segment
-segment-short id x y = by-equal (equal y x) x
-  where
-    by-equal : (b : Bool) (x : List ℕ) → length (cond {A = List ℕ} b [] (command id x)) ≤ length x
-    by-equal true x = omega arith
-    by-equal false [] = omega arith
-    by-equal false (h ∷ x) = omega arith
-
-segments-short : (rs : List Row) (x y : List ℕ) → length (segments rs x y) ≤ length x
-segments-short [] x y = omega arith
-segments-short (r ∷ rs) x y =
-    let s : List ℕ = segment (r .id) (take (size r) x) (take (size r) y) in
-    let n = length-append s (segments rs (drop (size r) x) (drop (size r) y)) in
-    let p = segment-short (r .id) (take (size r) x) (take (size r) y) in
-    let q = segments-short rs (drop (size r) x) (drop (size r) y) in
-    let k = ap length (take-append-drop (size r) x) in
-    omega (arith, length-append (take (size r) x) (drop (size r) x))
-
-pub due-short : (changed : Bool) (current built : List ℕ) → length current ≡ 24 → length built ≡ 24 → length (due changed current built) ≤ 24
-due-short true current built lc lb = omega (arith, segments-short settings current built)
-due-short false current built lc lb = omega arith
+use Rattle.form.specs.Numbers.{holds, numberOf}
+use Rattle.form.specs.Output.{longest, Output, emitChanged, CanEmitChanged}
+use Rattle.form.specs.Drafts.{Drafted, outputOf, afterSetting, afterWork, afterCommand, CanWork, CanTake}
+use Rattle.form.proofs.Numbers.{holds-put, holds-other, holds-none, settingOf, setting-of, number-of}
+use Rattle.form.proofs.Copying.{read-words}
+use Rattle.form.proofs.Emitting.{SetAt, set-cong, sent-cong, LatestAt, Latest, Progress, emit-all}
 
 -- ---- what a command does
 
-module _ (l : List ℕ) (h : Held) where
-  pub after-setting : settingAt l (h .draft .at) ≡ true → (n : ℕ) → sizeAt l (h .draft .at) ≡ n
-      → record {
-        draft = record { at = h .draft .at + n; written = h .draft .written; changed = true };
-        current = currentAfter l (h .draft .at) (h .current);
-        built = h .built;
-        out = h .out;
-      } ≡ draftAfter l h
-  unfolding draftAfter
-  after-setting e n s = rw (e, s)
+module _ (l image : List ℕ) (s : Drafted) (h : CanTake l image s) (w id kind : ℕ) (ew : w ≡ getD l (s .draft .at) 0) (ei : id ≡ idOf w) (ek : kind ≡ settingKind id) where
+  id-is : id ≡ idAt l (s .draft .at)
+  id-is = ei ∙ ap idOf ew
 
-  pub after-work : settingAt l (h .draft .at) ≡ false → afterWork l h ≡ draftAfter l h
-  unfolding draftAfter
-  after-work e = rw e
+  kind-is : settingKind (idAt l (s .draft .at)) ≡ kind
+  kind-is = sym (ek ∙ ap settingKind id-is)
 
-  pub draft-at : draftAfter l h .draft .at ≡ h .draft .at + sizeAt l (h .draft .at)
-  unfolding draftAfter afterWork
-  draft-at = elim (settingAt l (h .draft .at)) as (λ b. (cond {A = Held} b
-      (record {
-        draft = record { at = h .draft .at + sizeAt l (h .draft .at); written = h .draft .written; changed = true };
-        current = currentAfter l (h .draft .at) (h .current);
-        built = h .built;
-        out = h .out;
-      }) (afterWork l h)) .draft .at ≡ h .draft .at + sizeAt l (h .draft .at)) [
-        | true ↦ refl
-        | false ↦ refl
-      ]
+  pub setting-number : (kind ≡ 0 → ⊥) → numberOf id < 64
+  setting-number f = omega (arith, h .number (λ z. f (sym kind-is ∙ z)), ap numberOf id-is)
+
+  pub group-size : kind ≡ 2 → sizeAt l (s .draft .at) ≡ 4
+  group-size e = is-group l (s .draft .at) (h .command) (kind-is ∙ e) .size
+
+  pub single-size : kind ≡ 1 → sizeAt l (s .draft .at) ≡ 1
+  single-size e = is-single l (s .draft .at) (h .command) (kind-is ∙ e) .size
+
+  pub took-setting : (kind ≡ 0 → ⊥) → (words : ℕ) → sizeAt l (s .draft .at) ≡ words → (d : Draft) (latest : List ℕ)
+      → d ≡ record { at = s .draft .at + words; written = s .draft .written; changed = bitOr (s .draft .changed) (2 ^ numberOf id) }
+      → latest ≡ set (s .latest) (numberOf id) (s .draft .at)
+      → record { draft = d; latest = latest; sent = s .sent; out = s .out } ≡ afterCommand l image s
+  unfolding afterCommand
+  took-setting f words es d latest ed el = rw (kind-is, ne-eqb kind 0 f, es, ← id-is, ed, el)
+
+  module _ (f : kind ≡ 2 → ⊥) (g : kind ≡ 1 → ⊥) where
+    no-setting : settingKind (idAt l (s .draft .at)) ≡ 0
+    no-setting = no-kind (idAt l (s .draft .at)) (λ z. f (sym kind-is ∙ z)) (λ z. g (sym kind-is ∙ z))
+
+    pub can-work-now : CanWork l image s
+    can-work-now = h .work no-setting
+
+    pub took-work : afterWork l image s ≡ afterCommand l image s
+    unfolding afterCommand
+    took-work = rw no-setting
 
 -- a work command, by what its parts did
-pub worked : (l : List ℕ) (d : Draft) (current built out : List ℕ) (n words : ℕ) (built′ out′ out″ : List ℕ) → words ≡ sizeAt l (d .at)
-    → n ≡ d .written + length (due (d .changed) current built) → built′ ≡ cond (d .changed) current built
-    → out′ ≡ sets out (d .written) (due (d .changed) current built) → out″ ≡ sets out′ n (take words (drop (d .at) l))
-    → record { draft = record { at = d .at + words; written = n + words; changed = false }; current = current; built = built′; out = out″ }
-    ≡ afterWork l (record { draft = d; current = current; built = built; out = out })
-unfolding afterWork
-worked l d current built out n words built′ out′ out″ es en eb eo e = rw (e, eo, eb, en, es)
+pub worked : (l image : List ℕ) (s : Drafted) (o : Output) (words : ℕ) (out : List ℕ) → words ≡ sizeAt l (s .draft .at)
+    → o ≡ emitChanged (s .draft .changed) l image (s .latest) (outputOf s) → out ≡ sets (o .out) (o .written) (read l (s .draft .at) words)
+    → record {
+      draft = record { at = s .draft .at + words; written = o .written + words; changed = 0 };
+      latest = s .latest;
+      sent = o .sent;
+      out = out;
+    } ≡ afterWork l image s
+worked l image s o words out es eo e = rw (e, es) (rw eo)
 
 -- ---- the loop
 
-pub record Forming (image₀ l out₀ : List ℕ) (h : Held) : Type 0 where
-  pub standing : Standing (commandsOf (parse image₀ l)) l (h .draft .at)
-  pub inside : h .draft .at ≤ length l
+pub record Forming (image₀ l start : List ℕ) (s : Drafted) : Type 0 where
+  pub position : Position (commandsOf (parse image₀ l)) l (s .draft .at)
   pub image : List ℕ
-  pub formed : List ℕ
-  pub near : Near formed image
-  pub current-is : h .current ≡ settingWords image
-  pub built-is : h .built ≡ settingWords formed
-  pub same : h .draft .changed ≡ false → formed ≡ image
+  pub built : List ℕ
+  pub near : Near built image
+  pub long : length (s .latest) ≡ 64
+  pub latest-is : Latest l built image (s .draft .changed) (s .latest)
   pub so-far : List ℕ
-  pub out-is : h .out ≡ sets out₀ 0 so-far
-  pub written-is : h .draft .written ≡ length so-far
-  pub form-is : normalForm image₀ l ≡ so-far ++ wordsAll (formFrom formed image (standing .rest))
+  pub progress : Progress l image₀ start (λ k. built) so-far (outputOf s)
+  pub form-is : normalForm image₀ l ≡ so-far ++ wordsAll (formFrom built image (position .rest))
 
-module _ (image₀ l out₀ : List ℕ) (e : parse image₀ l ≡ accepted (commandsOf (parse image₀ l))) where
+abbrev pub zeros : ℕ → List ℕ
+zeros zero = []
+zeros (suc n) = 0 ∷ zeros n
+
+zero-at : (n k : ℕ) → getD (zeros n) k 0 ≡ 0
+zero-at zero k = refl
+zero-at (suc n) zero = refl
+zero-at (suc n) (suc k) = zero-at n k
+
+-- no setting is changed where the form has built the list's image
+latest-none : (l image latest : List ℕ) → Latest l image image 0 latest
+latest-none l image latest k = rw (holds-none k) (by-number (settingOf k))
+  where
+    by-number : (q : Option Row) → LatestAt l image image q false (getD latest k 0)
+    by-number none = refl
+    by-number (some r) = refl
+
+-- a setting put in the list's image
+module _ (l built image latest : List ℕ) (changed at : ℕ) (c : Command) (s : Setting (c .row)) (v : Valid c) (whole : length image ≡ 256)
+    (long : length latest ≡ 64) (own : read l at (size (c .row)) ≡ words c) (inside : at + size (c .row) ≤ length l)
+    (is : Latest l built image changed latest) where
+  abbrev k : ℕ
+  k = numberOf (c .row .id)
+
+  set-here : SetAt l at (c .row) (apply c image)
+  set-here =
+      let e = sym (emit-own c image s v whole) in
+      record { words-are = own ∙ ap words e; valid = subst Valid e v; inside = inside }
+
+  other-number : (j : ℕ) → (j ≡ k → ⊥) → (q : Option Row) → settingOf j ≡ q → (b : Bool) (p : ℕ) → LatestAt l built image q b p → LatestAt l built (apply c image) q b p
+  other-number j ne none e b p h = h
+  other-number j ne (some r) e b p h =
+      let n = setting-of j r e in
+      let same : read (apply c image) (r .id) (size r) ≡ read image (r .id) (size r) =
+      elim (settings-apart r (c .row) (n .setting) s) [
+        | inl f ↦ absurd (ne (sym (n .number) ∙ ap (λ (x : Row). numberOf (x .id)) f))
+        | inr f ↦ setting-other c image s v r f
+      ] in
+      (elim b as (λ t. LatestAt l built image (some r) t p → LatestAt l built (apply c image) (some r) t p) [
+        | true ↦ set-cong l r image (apply c image) (sym same) p
+        | false ↦ λ x. x ∙ sym same
+      ]) h
+
+  latest-set : Latest l built (apply c image) (bitOr changed (2 ^ k)) (set latest k at)
+  latest-set j =
+      elim (ℕ-discrete j k) [
+        | yes e ↦
+            let n = setting-of k (c .row) (number-of (c .row) s) in
+            rw (e, number-of (c .row) s, holds-put changed k, getD-set-same latest k at 0 (omega arith)) set-here
+        | no e ↦ rw (holds-other changed k j e, getD-set-other latest k j at 0 e) (other-number j e (settingOf j) refl (holds changed j) (getD latest j 0) (is j))
+      ]
+
+-- the kind of a command's id
+kind-of : (c : Command) → Valid c → not (eqb (settingKind (c .row .id)) 0) ≡ isSetting (c .row .kind)
+unfolding settingId
+kind-of c v = setting-is (c .row .id) ∙ rw (v .found)
+
+module _ (image₀ l start : List ℕ) (e : parse image₀ l ≡ accepted (commandsOf (parse image₀ l))) where
   a : Accepted image₀ l (commandsOf (parse image₀ l))
   a = parse-accepted image₀ l (commandsOf (parse image₀ l)) e
 
-  pub forming-start : Forming image₀ l out₀ (record { draft = record { at = 0; written = 0; changed = false }; current = settingWords image₀; built = settingWords image₀; out = out₀ })
-  forming-start = record {
-    standing = standing-start image₀ l (commandsOf (parse image₀ l)) e;
-    inside = omega arith;
-    image = image₀;
-    formed = image₀;
-    near = near-refl image₀ (a .whole);
-    current-is = refl;
-    built-is = refl;
-    same = λ x. refl;
-    so-far = [];
-    out-is = refl;
-    written-is = refl;
-    form-is = refl;
-  }
+  few-form : length (normalForm image₀ l) ≤ longest
+  few-form = omega (arith, form-fits image₀ l (commandsOf (parse image₀ l)) e, a .few)
 
-  module _ (h : Held) (g : Forming image₀ l out₀ h) where
-    pub few-written : h .draft .written ≤ 4096
-    few-written =
-        omega (
-          arith,
-          g .written-is,
-          ap length (g .form-is),
-          length-append (g .so-far) (wordsAll (formFrom (g .formed) (g .image) (g .standing .rest))),
-          form-fits image₀ l (commandsOf (parse image₀ l)) e,
-          a .few,
-        )
-
-    module _ (inside : h .draft .at < length l) where
-      t : Turn (commandsOf (parse image₀ l)) l (h .draft .at) (g .standing)
-      t = turn (commandsOf (parse image₀ l)) l (h .draft .at) (g .standing) inside
-
-      c : Command
-      c = t .command
-
-      at-command : CommandAt l (h .draft .at)
-      at-command = command-at (commandsOf (parse image₀ l)) l (h .draft .at) (g .standing) (a .few) t
-
-      pub forming-drafting : Drafting l (h .draft) (h .current) (h .built)
-      forming-drafting = record {
-        command = at-command;
-        written = few-written;
-        current-long = ap length (g .current-is) ∙ words-long (g .image);
-        built-long = ap length (g .built-is) ∙ words-long (g .formed);
+  pub forming-start : Forming image₀ l start (record { draft = record { at = 0; written = 0; changed = 0 }; latest = zeros 64; sent = zeros 64; out = start })
+  forming-start =
+      record {
+        position = position-start image₀ l (commandsOf (parse image₀ l)) e;
+        image = image₀;
+        built = image₀;
+        near = near-refl image₀ (a .whole);
+        long = refl;
+        latest-is = latest-none l image₀ (zeros 64);
+        so-far = [];
+        progress = record { long = refl; written-is = refl; out-is = refl; sent-is = λ k r f. inl (zero-at 64 k, refl) };
+        form-is = refl;
       }
 
-      rest-form : formFrom (g .formed) (g .image) (g .standing .rest) ≡ formFrom (g .formed) (g .image) (t .command ∷ t .later)
-      rest-form = ap (formFrom (g .formed) (g .image)) (t .rest-is)
+  module _ (s : Drafted) (g : Forming image₀ l start s) where
+    abbrev ahead : List ℕ
+    ahead = g .so-far ++ wordsAll (differing settings (g .built) (g .image))
 
-      kind-is : (b : Bool) → settingAt l (h .draft .at) ≡ b → isSetting (t .command .row .kind) ≡ b
-      kind-is b f = ap (λ (r : Row). isSetting (r .kind)) (sym (t .row-at)) ∙ f
+    abbrev o : Output
+    o = emitChanged (s .draft .changed) l image₀ (s .latest) (outputOf s)
 
-      set-on : settingAt l (h .draft .at) ≡ true → (h′ : Held)
-          → record {
-            draft = record { at = h .draft .at + sizeAt l (h .draft .at); written = h .draft .written; changed = true };
-            current = currentAfter l (h .draft .at) (h .current);
-            built = h .built;
-            out = h .out;
-          } ≡ h′ → Forming image₀ l out₀ h′
-      unfolding currentAfter
-      set-on f h′ eh =
-          let is : isSetting (t .command .row .kind) ≡ true = kind-is true f in
-          let s : Setting (t .command .row) = valid-setting (t .command) (t .valid) (is-setting (t .command .row .kind) is) in
-          let n = setting-length (t .command) s (t .valid) in
-          let own : ownAt l (h .draft .at) ≡ t .command .rest =
-          ap₂ (λ (m : ℕ) (x : List ℕ). take m x) (ap (λ (r : Row). length (r .more)) (t .row-at) ∙ sym n) (t .tail) ∙ take-append-seam (t .command .rest) (wordsAll (t .later)) in
-          let cur : sets (h .current) (slotOf (idAt l (h .draft .at))) (headerAt l (h .draft .at) ∷ ownAt l (h .draft .at)) ≡ settingWords (apply (t .command) (g .image)) =
-          ap (λ (x : List ℕ). sets x (slotOf (idAt l (h .draft .at))) (headerAt l (h .draft .at) ∷ ownAt l (h .draft .at))) (g .current-is)
-          ∙ rw (own, t .id-is, t .header-is) (sym (words-set (t .command) (g .image) s (t .valid) (g .near .long-im))) in
-          let next : h .draft .at + sizeAt l (h .draft .at) ≡ h .draft .at + suc (length (t .command .rest)) = ap (λ (k : ℕ). h .draft .at + k) (t .size-is) in
-          let whole : Forming image₀ l out₀ (record {
-            draft = record { at = h .draft .at + sizeAt l (h .draft .at); written = h .draft .written; changed = true };
-            current = sets (h .current) (slotOf (idAt l (h .draft .at))) (headerAt l (h .draft .at) ∷ ownAt l (h .draft .at));
-            built = h .built;
-            out = h .out;
-          }) =
-          record {
-            standing = after (g .standing) t (h .draft .at + sizeAt l (h .draft .at)) next;
-            inside = omega (arith, t .inside);
-            image = apply (t .command) (g .image);
-            formed = g .formed;
-            near = near-setting (g .formed) (g .image) (t .command) (g .near) (t .valid) s;
-            current-is = cur;
-            built-is = g .built-is;
-            same = λ z. let y : _≡_ {A = ℕ} 0 1 = cc in absurd (omega arith);
-            so-far = g .so-far;
-            out-is = g .out-is;
-            written-is = g .written-is;
-            form-is = g .form-is ∙ ap (λ (x : List Command). g .so-far ++ wordsAll x) (rest-form ∙ form-setting (g .formed) (g .image) (t .command) (t .later) is);
-          } in
-          subst (Forming image₀ l out₀) eh whole
-
-      -- the words due, and the command's own
-      put : List ℕ
-      put = due (h .draft .changed) (h .current) (h .built)
-
-      put-is : due (h .draft .changed) (h .current) (h .built) ≡ wordsAll (differing settings (g .formed) (g .image))
-      put-is = rw (g .current-is, g .built-is) (due-is (h .draft .changed) (g .formed) (g .image) (g .near) (g .same))
-
-      own-words : slice (h .draft .at) (sizeAt l (h .draft .at)) l ≡ words (t .command)
-      own-words =
-          ap₂ (λ (n : ℕ) (x : List ℕ). take n x) (t .size-is) (g .standing .left ∙ ap wordsAll (t .rest-is))
-          ∙ take-at (words (t .command)) (wordsAll (t .later)) (suc (length (t .command .rest))) refl
-
-      built-all : cond (h .draft .changed) (h .current) (h .built) ≡ settingWords (g .image)
-      built-all = by-changed (h .draft .changed) (g .same)
-        where
-          by-changed : (b : Bool) → (b ≡ false → g .formed ≡ g .image) → cond b (h .current) (h .built) ≡ settingWords (g .image)
-          by-changed true k = g .current-is
-          by-changed false k = g .built-is ∙ ap settingWords (k refl)
-
-      work-on : settingAt l (h .draft .at) ≡ false → (h′ : Held) → afterWork l h ≡ h′ → Forming image₀ l out₀ h′
-      unfolding afterWork
-      work-on f h′ eh =
-          let is : isSetting (t .command .row .kind) ≡ false = kind-is false f in
-          let long : length (apply (t .command) (g .image)) ≡ 256 = length-apply (t .command) (g .image) ∙ g .near .long-im in
-          let stay : settingWords (apply (t .command) (g .image)) ≡ settingWords (g .image) = words-work (t .command) (g .image) (t .valid) is in
-          let next : h .draft .at + sizeAt l (h .draft .at) ≡ h .draft .at + suc (length (t .command .rest)) = ap (λ (k : ℕ). h .draft .at + k) (t .size-is) in
-          let d : List ℕ = due (h .draft .changed) (h .current) (h .built) in
-          let l₁ = length-append (g .so-far) d in
-          let l₂ = length-append (g .so-far ++ d) (words (t .command)) in
-          let w : h .draft .written + length d ≡ 0 + length (g .so-far ++ d) = omega (arith, g .written-is) in
-          let out′ : sets (sets (h .out) (h .draft .written) d) (h .draft .written + length d) (slice (h .draft .at) (sizeAt l (h .draft .at)) l)
-          ≡ sets out₀ 0 ((g .so-far ++ d) ++ words (t .command)) =
-          ap₂ (λ (x : List ℕ) (k : ℕ). sets x k (slice (h .draft .at) (sizeAt l (h .draft .at)) l))
-          (ap₂ (λ (x : List ℕ) (k : ℕ). sets x k d) (g .out-is) (g .written-is ∙ sym (zero-add (length (g .so-far)))) ∙ sym (sets-append out₀ 0 (g .so-far) d)) w
-          ∙ ap (sets (sets out₀ 0 (g .so-far ++ d)) (0 + length (g .so-far ++ d))) own-words ∙ sym (sets-append out₀ 0 (g .so-far ++ d) (words (t .command))) in
-          let form′ : normalForm image₀ l ≡ ((g .so-far ++ d) ++ words (t .command)) ++ wordsAll (formFrom (apply (t .command) (g .image)) (apply (t .command) (g .image)) (t .later)) =
-          g .form-is
-          ∙ ap (λ (x : List Command). g .so-far ++ wordsAll x) (rest-form ∙ form-work (g .formed) (g .image) (t .command) (t .later) is (g .near))
-          ∙ ap (λ (x : List ℕ). g .so-far ++ x) (wordsAll-append (differing settings (g .formed) (g .image)) (t .command ∷ formFrom (apply (t .command) (g .image)) (apply (t .command) (g .image)) (t .later))
-          ∙ ap (λ (x : List ℕ). x ++ (words (t .command) ++ wordsAll (formFrom (apply (t .command) (g .image)) (apply (t .command) (g .image)) (t .later)))) (sym put-is))
-          ∙ sym (append-assoc (g .so-far) d (words (t .command) ++ wordsAll (formFrom (apply (t .command) (g .image)) (apply (t .command) (g .image)) (t .later))))
-          ∙ sym (append-assoc (g .so-far ++ d) (words (t .command)) (wordsAll (formFrom (apply (t .command) (g .image)) (apply (t .command) (g .image)) (t .later)))) in
-          let whole : Forming image₀ l out₀ (record {
-            draft = record { at = h .draft .at + sizeAt l (h .draft .at); written = h .draft .written + length d + sizeAt l (h .draft .at); changed = false };
-            current = h .current;
-            built = cond (h .draft .changed) (h .current) (h .built);
-            out = sets (sets (h .out) (h .draft .written) d) (h .draft .written + length d) (slice (h .draft .at) (sizeAt l (h .draft .at)) l);
-          }) =
-          record {
-            standing = after (g .standing) t (h .draft .at + sizeAt l (h .draft .at)) next;
-            inside = omega (arith, t .inside);
-            image = apply (t .command) (g .image);
-            formed = apply (t .command) (g .image);
-            near = near-refl (apply (t .command) (g .image)) long;
-            current-is = g .current-is ∙ sym stay;
-            built-is = built-all ∙ sym stay;
-            same = λ z. refl;
-            so-far = (g .so-far ++ d) ++ words (t .command);
-            out-is = out′;
-            written-is = omega (arith, t .size-is);
-            form-is = form′;
-          } in
-          subst (Forming image₀ l out₀) eh whole
-
-      pub forming-on : (h′ : Held) → h′ ≡ draftAfter l h → (h .draft .at < h′ .draft .at) × Forming image₀ l out₀ h′
-      forming-on h′ eh =
-          let g′ : Forming image₀ l out₀ h′ =
-          (elim (settingAt l (h .draft .at)) as (λ b. settingAt l (h .draft .at) ≡ b → Forming image₀ l out₀ h′) [
-            | true ↦ λ f. set-on f h′ (after-setting l h f (sizeAt l (h .draft .at)) refl ∙ sym eh)
-            | false ↦ λ f. work-on f h′ (after-work l h f ∙ sym eh)
-          ]) refl in
-          let n : h′ .draft .at ≡ h .draft .at + suc (length (t .command .rest)) =
-          ap (λ (x : Held). x .draft .at) eh ∙ at-after ∙ ap (λ (k : ℕ). h .draft .at + k) (t .size-is) in
-          (omega arith, g′)
-        where
-          at-after : draftAfter l h .draft .at ≡ h .draft .at + sizeAt l (h .draft .at)
-          at-after = draft-at l h
+    -- what is put out, where the form goes on with it
+    emitted : (more : List ℕ) → normalForm image₀ l ≡ ahead ++ more
+        → Progress l image₀ start (λ k. g .image) ahead o × CanEmitChanged (s .draft .changed) l image₀ (s .latest) (outputOf s)
+    emitted more f =
+        emit-all l image₀ (g .built) (g .image) start (s .latest) (s .draft .changed) (a .few) (a .whole) (g .latest-is) (g .so-far) (outputOf s) (g .progress)
+        (omega (arith, ap length f, length-append ahead more, few-form))
 
     -- the end of the list
-    pub forming-end : length l ≤ h .draft .at → (n : ℕ) (out : List ℕ) → n ≡ h .draft .written + length (due (h .draft .changed) (h .current) (h .built))
-        → out ≡ sets (h .out) (h .draft .written) (due (h .draft .changed) (h .current) (h .built))
-        → (n ≡ length (normalForm image₀ l)) × (out ≡ sets out₀ 0 (normalForm image₀ l))
-    forming-end past n out en eo =
-        let d : List ℕ = due (h .draft .changed) (h .current) (h .built) in
-        let p : due (h .draft .changed) (h .current) (h .built) ≡ wordsAll (differing settings (g .formed) (g .image)) =
-        rw (g .current-is, g .built-is) (due-is (h .draft .changed) (g .formed) (g .image) (g .near) (g .same)) in
-        let w : normalForm image₀ l ≡ g .so-far ++ d =
-        g .form-is ∙ ap (λ (x : List Command). g .so-far ++ wordsAll (formFrom (g .formed) (g .image) x)) (standing-end (commandsOf (parse image₀ l)) l (h .draft .at) (g .standing) past)
-        ∙ ap (λ (x : List Command). g .so-far ++ wordsAll x) (form-nil (g .formed) (g .image)) ∙ ap (λ (x : List ℕ). g .so-far ++ x) (sym p) in (
-          omega (arith, g .written-is, ap length w, length-append (g .so-far) d),
-          eo ∙ ap₂ (λ (x : List ℕ) (k : ℕ). sets x k d) (g .out-is) (g .written-is ∙ sym (zero-add (length (g .so-far)))) ∙ sym (sets-append out₀ 0 (g .so-far) d) ∙ ap (sets out₀ 0) (sym w),
-        )
+    module _ (past : length l ≤ s .draft .at) where
+      last-form : normalForm image₀ l ≡ ahead
+      last-form =
+          g .form-is ∙ ap (λ (x : List Command). g .so-far ++ wordsAll (formFrom (g .built) (g .image) x)) (position-end (commandsOf (parse image₀ l)) l (s .draft .at) (g .position) past)
+          ∙ ap (λ (x : List Command). g .so-far ++ wordsAll x) (form-nil (g .built) (g .image))
+
+      pub can-end : CanEmitChanged (s .draft .changed) l image₀ (s .latest) (outputOf s)
+      can-end = emitted [] (last-form ∙ sym (append-nil ahead)) .1
+
+      pub forming-end : (o′ : Output) → o′ ≡ o → (o′ .written ≡ length (normalForm image₀ l)) × (o′ .out ≡ sets start 0 (normalForm image₀ l))
+      forming-end o′ eo = let p = emitted [] (last-form ∙ sym (append-nil ahead)) .0 in rw (eo, last-form) (p .written-is, p .out-is)
+
+    -- a command
+    module _ (inside : s .draft .at < length l) where
+      t : AtCommand (commandsOf (parse image₀ l)) l (s .draft .at) (g .position)
+      t = at-command (commandsOf (parse image₀ l)) l (s .draft .at) (g .position) inside
+
+      here : CommandAt l (s .draft .at)
+      here = command-at (commandsOf (parse image₀ l)) l (s .draft .at) (g .position) (a .few) t
+
+      own : read l (s .draft .at) (suc (length (t .command .rest))) ≡ words (t .command)
+      own = read-words l (s .draft .at) (words (t .command)) (wordsAll (t .later)) (g .position .left ∙ ap wordsAll (t .rest-is))
+
+      rest-form : normalForm image₀ l ≡ g .so-far ++ wordsAll (formFrom (g .built) (g .image) (t .command ∷ t .later))
+      rest-form = g .form-is ∙ ap (λ (x : List Command). g .so-far ++ wordsAll (formFrom (g .built) (g .image) x)) (t .rest-is)
+
+      set-on : isSetting (t .command .row .kind) ≡ true → Forming image₀ l start (afterSetting l s)
+      set-on is =
+          let x : Setting (t .command .row) = valid-setting (t .command) (t .valid) (is-setting (t .command .row .kind) is) in
+          let n = setting-length (t .command) x (t .valid) in
+          let sz : suc (length (t .command .rest)) ≡ size (t .command .row) = omega arith in
+          let set-latest = latest-set l (g .built) (g .image) (s .latest) (s .draft .changed) (s .draft .at) (t .command) x (t .valid) (g .near .long-im) (g .long)
+          (ap (read l (s .draft .at)) (sym sz) ∙ own) (omega (arith, t .inside)) (g .latest-is) in
+          record {
+            position = after (g .position) t (s .draft .at + sizeAt l (s .draft .at)) (ap (λ (j : ℕ). s .draft .at + j) (t .size-is));
+            image = apply (t .command) (g .image);
+            built = g .built;
+            near = near-setting (g .built) (g .image) (t .command) (g .near) (t .valid) x;
+            long = length-set (s .latest) (numberOf (idAt l (s .draft .at))) (s .draft .at) ∙ g .long;
+            latest-is = rw (t .id-is) set-latest;
+            so-far = g .so-far;
+            progress = g .progress;
+            form-is = rest-form ∙ ap (λ (y : List Command). g .so-far ++ wordsAll y) (form-setting (g .built) (g .image) (t .command) (t .later) is);
+          }
+
+      module _ (is : isSetting (t .command .row .kind) ≡ false) where
+        abbrev im : List ℕ
+        im = apply (t .command) (g .image)
+
+        work-form : normalForm image₀ l ≡ ahead ++ (words (t .command) ++ wordsAll (formFrom im im (t .later)))
+        work-form =
+            rest-form ∙ ap (λ (y : List Command). g .so-far ++ wordsAll y) (form-work (g .built) (g .image) (t .command) (t .later) is (g .near))
+            ∙ ap (λ (y : List ℕ). g .so-far ++ y) (wordsAll-append (differing settings (g .built) (g .image)) (t .command ∷ formFrom im im (t .later)))
+            ∙ sym (append-assoc (g .so-far) (wordsAll (differing settings (g .built) (g .image))) (words (t .command) ++ wordsAll (formFrom im im (t .later))))
+
+        out-on : Progress l image₀ start (λ k. g .image) ahead o × CanEmitChanged (s .draft .changed) l image₀ (s .latest) (outputOf s)
+        out-on = emitted (words (t .command) ++ wordsAll (formFrom im im (t .later))) work-form
+
+        can-work : CanWork l image₀ s
+        can-work = record {
+          command = here;
+          emits = out-on .1;
+          fits = omega (arith, out-on .0 .written-is, ap length work-form, length-append ahead (words (t .command) ++ wordsAll (formFrom im im (t .later))), few-form);
+        }
+
+        work-on : Forming image₀ l start (afterWork l image₀ s)
+        work-on =
+            let long′ : length im ≡ 256 = length-apply (t .command) (g .image) ∙ g .near .long-im in
+            let p = out-on .0 in
+            let own′ : read l (s .draft .at) (sizeAt l (s .draft .at)) ≡ words (t .command) = ap (read l (s .draft .at)) (t .size-is) ∙ own in
+            let n = length-append ahead (words (t .command)) in
+            record {
+              position = after (g .position) t (s .draft .at + sizeAt l (s .draft .at)) (ap (λ (j : ℕ). s .draft .at + j) (t .size-is));
+              image = im;
+              built = im;
+              near = near-refl im long′;
+              long = g .long;
+              latest-is = latest-none l im (s .latest);
+              so-far = ahead ++ words (t .command);
+              progress = record {
+                long = p .long;
+                written-is = omega (arith, p .written-is, t .size-is);
+                out-is = ap₂ (λ (x : List ℕ) (j : ℕ). sets x j (read l (s .draft .at) (sizeAt l (s .draft .at)))) (p .out-is) (p .written-is ∙ sym (zero-add (length ahead)))
+                    ∙ ap (sets (sets start 0 ahead) (0 + length ahead)) own′ ∙ sym (sets-append start 0 ahead (words (t .command)));
+                sent-is = λ j r f.
+                    sent-cong l r (g .image) im (sym (work-other r (setting-of j r f .setting) (g .image) (t .command) (t .valid) is)) image₀ _ (p .sent-is j r f);
+              };
+              form-is = work-form ∙ sym (append-assoc ahead (words (t .command)) (wordsAll (formFrom im im (t .later))));
+            }
+
+      setting-kind : not (eqb (settingKind (idAt l (s .draft .at))) 0) ≡ isSetting (t .command .row .kind)
+      setting-kind = ap (λ (i : ℕ). not (eqb (settingKind i) 0)) (t .id-is) ∙ kind-of (t .command) (t .valid)
+
+      pub can-take : CanTake l image₀ s
+      can-take = record {
+        command = here;
+        number = λ f.
+            let x = valid-setting (t .command) (t .valid) (is-setting (t .command .row .kind) (sym setting-kind ∙ ap not (ne-eqb _ 0 f))) in
+            omega (arith, setting-of (numberOf (t .command .row .id)) (t .command .row) (number-of (t .command .row) x) .small, ap numberOf (t .id-is));
+        work = λ f. can-work (sym setting-kind ∙ ap not (eq-eqb _ 0 f));
+      }
+
+      pub forming-on : (s′ : Drafted) → s′ ≡ afterCommand l image₀ s → (s .draft .at < s′ .draft .at) × Forming image₀ l start s′
+      unfolding afterCommand
+      forming-on s′ es =
+          let less : s .draft .at < s .draft .at + sizeAt l (s .draft .at) = omega (arith, t .size-is) in
+          rw es ((elim (isSetting (t .command .row .kind)) as (λ b. isSetting (t .command .row .kind) ≡ b
+          → (s .draft .at < afterCommand l image₀ s .draft .at) × Forming image₀ l start (afterCommand l image₀ s)) [
+            | true ↦ λ is. rw (not-true (eqb (settingKind (idAt l (s .draft .at))) 0) (setting-kind ∙ is)) (less, set-on is)
+            | false ↦ λ is. rw (not-false (eqb (settingKind (idAt l (s .draft .at))) 0) (setting-kind ∙ is)) (less, work-on is)
+          ]) refl)

@@ -1,4 +1,5 @@
-pub mod Slots
-pub mod Settings
+pub mod Numbers
+pub mod Copying
+pub mod Emitting
 pub mod Forming
 pub mod Normalising

@@ -1,16 +1,17 @@
 -- The normaliser's answer, by what the first pass found and the form's length.
-use Prim.Native.Nat.{ℕ, _+_, _≤_, _<_}
+use Prim.Native.Nat.{ℕ, _≤_}
 use native.Mathlib.Omega.{arith}
-use mathlib.Core.Path.{_≡_, refl, ap, sym, _∙_}
-use mathlib.Core.Bool.{Bool, true, false}
-use mathlib.Core.List.{List, [], _++_}
+use mathlib.Core.Path.{_≡_, ap, sym, _∙_}
+use mathlib.Core.Bool.{true, false}
+use mathlib.Core.List.{List}
 use lib.Dec.{ltb}
 use borrow.Author.Tests.{ltb-false, le-ltb}
-use lib.ListN.{length, drop}
+use lib.ListN.{length}
 use lib.Seq.{sets}
+use Rattle.rules.specs.declared.Refusal.{Refusal}
 use Rattle.rules.specs.Values.{refusal}
 use Rattle.rules.specs.Walk.{Parsed, refused, accepted, parse}
-use Rattle.rules.specs.Answer.{Outcome, refusedAnswer, normaliseParsed, normalising, commandsOf, normalForm}
+use Rattle.rules.specs.Answer.{refuse, normaliseParsed, normalising, commandsOf, normalForm}
 use Rattle.rules.proofs.Form.{form-fits}
 use Rattle.list.specs.declared.Walked.the-variants as walked
 use Rattle.list.specs.View.{walkedOf}
@@ -22,19 +23,14 @@ pub form-room : (image l out : List ℕ) → parse image l ≡ accepted (command
 form-room image l out e h = le-ltb (length out) (length (normalForm image l)) (omega (arith, form-fits image l (commandsOf (parse image l)) e))
 
 module _ (l image buffer : List ℕ) where
-  by-refused : (x : Parsed) (n p : ℕ) → walkedOf x ≡ walked.Refused n p
-      → record { answer = refusedAnswer (refusal n p); image = image; buffer = buffer } ≡ normaliseParsed l image buffer x
-  by-refused (refused f) n p e =
-      let en : f .number ≡ n = cc in
-      let ep : f .word ≡ p = cc in
-      rw (en, ep)
-  by-refused (accepted cs) n p e = let z : _≡_ {A = ℕ} 0 1 = cc in absurd (omega arith)
+  by-refused : (x : Parsed) (f : Refusal) → walkedOf x ≡ walked.Refused f → refuse f image buffer ≡ normaliseParsed l image buffer x
+  by-refused (refused g) f e = let eg : f ≡ g = cc in ap (λ (x : Refusal). refuse x image buffer) eg
+  by-refused (accepted cs) f e = let z : _≡_ {A = ℕ} 0 1 = cc in absurd (omega arith)
 
   -- refusals 1 to 10
-  pub normalise-refused : (n p : ℕ) → walkedOf (parse image l) ≡ walked.Refused n p
-      → record { answer = refusedAnswer (refusal n p); image = image; buffer = buffer } ≡ normalising l image buffer
+  pub normalise-refused : (f : Refusal) → walkedOf (parse image l) ≡ walked.Refused f → refuse f image buffer ≡ normalising l image buffer
   unfolding normalising
-  normalise-refused n p e = by-refused (parse image l) n p e
+  normalise-refused f e = by-refused (parse image l) f e
 
   module _ (c k : ℕ) (e : walkedOf (parse image l) ≡ walked.Accepted c k) where
     n : Counts (parse image l) c k
@@ -42,7 +38,7 @@ module _ (l image buffer : List ℕ) where
 
     -- 11
     pub normalise-short : ltb (length buffer) (length (normalForm image l)) ≡ true
-        → record { answer = refusedAnswer (refusal 11 (length l)); image = image; buffer = buffer } ≡ normalising l image buffer
+        → refuse (refusal 11 (length l)) image buffer ≡ normalising l image buffer
     unfolding normalising
     normalise-short h = sym (ap (normaliseParsed l image buffer) (n .is) ∙ rw h)
 

@@ -1,50 +1,68 @@
 -- What one command of an accepted list does to a form that is being written.
-use Prim.Native.Nat.{ℕ, _+_, _≤_, _<_}
+use Prim.Native.Nat.{ℕ, _+_, _^_, _≤_, _<_}
 use mathlib.Core.Path.{_≡_}
-use mathlib.Core.Bool.{true, false, cond}
-use mathlib.Core.List.{List, _∷_, _++_}
-use lib.ListN.{length}
+use mathlib.Core.Bool.{cond}
+use mathlib.Core.List.{List}
+use lib.Bits.{bitOr}
+use lib.Dec.{eqb}
+use lib.ListN.{set}
 use lib.Seq.{sets}
-use Rattle.list.specs.Second.{idAt, headerAt, sizeAt, settingAt, ownAt, CommandAt}
+use Rattle.rules.specs.Form.{read}
+use Rattle.table.specs.Ids.{settingKind}
+use Rattle.command.specs.View.{sizeAt}
+use Rattle.list.specs.Effects.{idAt, CommandAt}
 use Rattle.form.specs.declared.Draft.{Draft}
-use Rattle.form.specs.Slots.{slotOf, slice, due}
+use Rattle.form.specs.Numbers.{numberOf}
+use Rattle.form.specs.Output.{longest, Output, emitChanged, CanEmitChanged}
 
--- where the form stands, the settings' words of the list's image and of the image built, and the buffer
-pub record Held : Type 0 where
+-- where the form stands, where each setting was last set, where its command last put out stands, and the buffer
+pub record Drafted : Type 0 where
   pub draft : Draft
-  pub current : List ℕ
-  pub built : List ℕ
+  pub latest : List ℕ
+  pub sent : List ℕ
   pub out : List ℕ
 
--- a command stands at the position
-pub record Drafting (l : List ℕ) (d : Draft) (current built : List ℕ) : Type 0 where
-  pub command : CommandAt l (d .at)
-  pub written : d .written ≤ 4096
-  pub current-long : length current ≡ 24
-  pub built-long : length built ≡ 24
+abbrev pub outputOf : Drafted → Output
+outputOf s = record { written = s .draft .written; sent = s .sent; out = s .out }
 
--- the settings' words after a setting
-unfoldable pub currentAfter : List ℕ → ℕ → List ℕ → List ℕ
-currentAfter l at current = sets current (slotOf (idAt l at)) (headerAt l at ∷ ownAt l at)
-
-unfoldable pub afterWork : List ℕ → Held → Held
-afterWork l h =
-    let at = h .draft .at in
-    let put = due (h .draft .changed) (h .current) (h .built) in
+-- a setting is the latest of its number
+abbrev pub afterSetting : List ℕ → Drafted → Drafted
+afterSetting l s =
+    let at = s .draft .at in
+    let k = numberOf (idAt l at) in
     record {
-      draft = record { at = at + sizeAt l at; written = h .draft .written + length put + sizeAt l at; changed = false };
-      current = h .current;
-      built = cond (h .draft .changed) (h .current) (h .built);
-      out = sets (sets (h .out) (h .draft .written) put) (h .draft .written + length put) (slice at (sizeAt l at) l);
+      draft = record { at = at + sizeAt l at; written = s .draft .written; changed = bitOr (s .draft .changed) (2 ^ k) };
+      latest = set (s .latest) k at;
+      sent = s .sent;
+      out = s .out;
     }
 
-unfoldable pub draftAfter : List ℕ → Held → Held
-draftAfter l h =
-    let set : Held = record {
-      draft = record { at = h .draft .at + sizeAt l (h .draft .at); written = h .draft .written; changed = true };
-      current = currentAfter l (h .draft .at) (h .current);
-      built = h .built;
-      out = h .out;
-    } in
-    let worked = afterWork l h in
-    cond {A = Held} (settingAt l (h .draft .at)) set worked
+-- before a work command the settings that differ are put out
+abbrev pub afterWork : List ℕ → List ℕ → Drafted → Drafted
+afterWork l image s =
+    let at = s .draft .at in
+    let o = emitChanged (s .draft .changed) l image (s .latest) (outputOf s) in
+    record {
+      draft = record { at = at + sizeAt l at; written = o .written + sizeAt l at; changed = 0 };
+      latest = s .latest;
+      sent = o .sent;
+      out = sets (o .out) (o .written) (read l at (sizeAt l at));
+    }
+
+unfoldable pub afterCommand : List ℕ → List ℕ → Drafted → Drafted
+afterCommand l image s =
+    let set = afterSetting l s in
+    let work = afterWork l image s in
+    cond {A = Drafted} (eqb (settingKind (idAt l (s .draft .at))) 0) work set
+
+-- a work command stands at the position
+pub record CanWork (l image : List ℕ) (s : Drafted) : Type 0 where
+  pub command : CommandAt l (s .draft .at)
+  pub emits : CanEmitChanged (s .draft .changed) l image (s .latest) (outputOf s)
+  pub fits : emitChanged (s .draft .changed) l image (s .latest) (outputOf s) .written ≤ longest
+
+-- a command stands at the position
+pub record CanTake (l image : List ℕ) (s : Drafted) : Type 0 where
+  pub command : CommandAt l (s .draft .at)
+  pub number : (settingKind (idAt l (s .draft .at)) ≡ 0 → ⊥) → numberOf (idAt l (s .draft .at)) < 64
+  pub work : settingKind (idAt l (s .draft .at)) ≡ 0 → CanWork l image s

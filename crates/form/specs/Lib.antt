@@ -1,2 +1,3 @@
-pub mod Slots
+pub mod Numbers
+pub mod Output
 pub mod Drafts

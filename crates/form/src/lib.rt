@@ -1,66 +1,55 @@
 // The normal form of a list: the normaliser.
 //
-// The form depends on the settings' words alone, so two copies of those 24 words stand for the list's image and for the
-// image that the form has built. A word past the end of a buffer is not written: a form is measured by writing it to an
-// empty part of the buffer.
-use command::Settings;
+// A setting's words still stand in the list, so the pass remembers positions: where each setting was last set (`latest`),
+// and where the command stands that the form last put out for it (`sent`: 0 never, else the position + 1). `changed` has a
+// bit for each setting set since the last work command; rising bits are rising ids. A word past the end of a buffer is not
+// written: a form is measured by writing it to an empty part of the buffer.
 use list::Walked;
 use rules::Answer;
+use rules::Refusal;
+use table::Settings;
 ghost use mathlib.Core.Path.{_≡_};
-ghost use mathlib.Core.Bool.{cond};
 ghost use mathlib.Core.List.{[], _∷_};
-ghost use mathlib.Core.Logic.{_⊎_};
-ghost use Prim.Native.Nat.{_+_, _*_, _<_, _≤_};
+ghost use Prim.Native.Nat.{_+_, _-_, _/_, _%_, _^_, _<_, _≤_, min};
+ghost use lib.Bits.{bitOr};
 ghost use lib.Dec.{ltb};
-ghost use lib.ListN.{length, getD, set, take, drop};
+ghost use lib.ListN.{length, set};
 ghost use lib.Seq.{sets};
-ghost use Rattle.rules.specs.Word.{idOf, headerOf, firstWord};
-ghost use Rattle.rules.specs.Table.{settings};
-ghost use Rattle.rules.specs.Form.{read};
+ghost use Rattle.rules.specs.Word.{idOf};
+ghost use Rattle.rules.specs.Form.{read, equal};
 ghost use Rattle.rules.specs.Walk.{parse, accepted};
-ghost use Rattle.rules.specs.Answer.{Outcome, normalising, normalForm, commandsOf};
-ghost use Rattle.command.specs.Tables.{rowAt, settingKind, KnownId};
-ghost use Rattle.list.specs.Second.{CommandAt};
-ghost use Rattle.form.specs.Slots.{settingWords, slotOf, due, Settled, Settling};
-ghost use Rattle.form.specs.Drafts.{Drafting, Held, currentAfter, afterWork, draftAfter};
+ghost use Rattle.rules.specs.Answer.{normalising, normalForm, commandsOf};
+ghost use Rattle.form.specs.Numbers.{numbers, numberOf};
+ghost use Rattle.form.specs.Drafts.{afterWork, afterCommand, CanWork, CanTake};
+ghost use Rattle.form.specs.Output.{longest, isBuilt, emitOne, emitEach, emitChanged, CanEmit, CanEmitEach, CanEmitChanged};
 
-// Where the form stands: the position in the list, the words written, and whether a setting has been set since the last
-// work command.
+// Where the form stands: the position in the list, the words written, and the settings set since the last work command.
 pub struct Draft {
     pub at: usize,
     pub written: usize,
-    pub changed: bool,
+    pub changed: u64,
 }
 
 // ---- buffers
 
-// A word past the end is not written.
-pub fn put(out: &mut [u32], n: usize, w: u32)
-    ensures { λ _. ⌜ now (out .exit) ≡ set (now (out .entry)) n w ⌝ }
-{
-    if n < out.len() {
-        out[n] = w;
-    }
-}
-
 fn put_group(out: &mut [u32], n: usize, a: u32, b: u32, c: u32, d: u32)
-    requires { ⌜ n < 9223372036854775808 ⌝ }
+    requires { ⌜ n ≤ longest ⌝ }
     ensures { λ _. ⌜ now (out .exit) ≡ sets (now (out .entry)) n (a ∷ b ∷ c ∷ d ∷ []) ⌝ }
 {
     if n + 4 <= out.len() {
-        list::put4(out, n, a, b, c, d);
+        words::put4(out, n, a, b, c, d);
         return;
     }
-    put(out, n, a);
-    put(out, n + 1, b);
-    put(out, n + 2, c);
-    put(out, n + 3, d);
+    words::put(out, n, a);
+    words::put(out, n + 1, b);
+    words::put(out, n + 2, c);
+    words::put(out, n + 3, d);
 }
 
 // As many of some words as a buffer has room for from a position on.
 fn room_for(words: usize, n: usize, len: usize) -> usize
-    requires { ⌜ n + words < 9223372036854775808 ⌝ }
-    ensures { λ r. ⌜ (r ≤ words) × ((r ≡ 0) ⊎ (n + r ≤ len)) × ((r ≡ words) ⊎ (len ≤ n + r)) ⌝ }
+    requires { ⌜ (n ≤ longest) × (words ≤ longest) ⌝ }
+    ensures { λ r. ⌜ r ≡ min words (len - n) ⌝ }
 {
     if n + words <= len {
         return words;
@@ -73,236 +62,229 @@ fn room_for(words: usize, n: usize, len: usize) -> usize
 
 // Some words of a list.
 fn copy(list: &[u32], at: usize, words: usize, out: &mut [u32], n: usize)
-    requires { ⌜ (at + words ≤ length (now list)) × (n + words < 9223372036854775808) ⌝ }
-    ensures { λ _. ⌜ now (out .exit) ≡ sets (now (out .entry)) n (take words (drop at (now (list .entry)))) ⌝ }
+    requires { ⌜ (length (now list) ≤ longest) × (at + words ≤ length (now list)) × (n ≤ longest) ⌝ }
+    ensures { λ _. ⌜ now (out .exit) ≡ sets (now (out .entry)) n (read (now (list .entry)) at words) ⌝ }
 {
     let m = room_for(words, n, out.len());
     let mut i: usize = 0;
     while i < m {
-        out[n + i] = command::fetch(list, at + i);
+        out[n + i] = words::fetch(list, at + i);
         i += 1;
     }
 }
 
-// ---- the settings' words
+// ---- the settings that were set
 
-// Four words of the image.
-fn load_group(image: &[u32], id: usize, words: &mut [u32; 24], i: usize)
-    requires { ⌜ (id + 4 ≤ length (now image)) × (i + 4 ≤ 24) ⌝ }
-    ensures { λ _. ⌜ now (words .exit) ≡ sets (now (words .entry)) i (read (now (image .entry)) id 4) ⌝ }
+fn same_group(w: u32, b: u32, c: u32, d: u32, s: &[u32], at: usize) -> bool
+    requires { ⌜ at + 4 ≤ length (now s) ⌝ }
+    ensures { λ r. ⌜ r ≡ equal (read (now (s .entry)) at 4) (w ∷ b ∷ c ∷ d ∷ []) ⌝ }
 {
-    list::put4(
-        words,
-        i,
-        image[id],
-        image[id + 1],
-        image[id + 2],
-        image[id + 3],
-    );
+    ((s[at] == w) & (s[at + 1] == b)) & ((s[at + 2] == c) & (s[at + 3] == d))
 }
 
-fn load(image: &[u32], words: &mut [u32; 24])
-    requires { ⌜ (length (now image) ≡ 256) × (length (now words) ≡ 24) ⌝ }
-    ensures { λ _. ⌜ now (words .exit) ≡ settingWords (now (image .entry)) ⌝ }
+// The form has built the setting with this word: its command last put out has it, or, before any, the starting image.
+fn single_is_built(list: &[u32], image: &[u32], w: u32, before: usize) -> bool
+    requires { ⌜ (idOf w < length (now image)) × (before ≤ length (now list)) ⌝ }
+    ensures { λ r. ⌜ r ≡ isBuilt 0 (now (list .entry)) (now (image .entry)) w [] before ⌝ }
 {
-    list::put4(words, 0, image[0x02], image[0x26], image[0x30], image[0x31]);
-    load_group(image, 0x84, words, 4);
-    load_group(image, 0x88, words, 8);
-    load_group(image, 0x8C, words, 12);
-    load_group(image, 0x90, words, 16);
-    load_group(image, 0xC4, words, 20);
-}
-
-fn single_slot(id: u32) -> usize
-    requires { ⌜ KnownId id × (settingKind (rowAt id) ≡ 1) ⌝ }
-    ensures { λ r. ⌜ r ≡ slotOf id ⌝ }
-{
-    match id {
-        0x02 => 0,
-        0x26 => 1,
-        0x30 => 2,
-        _ => 3,
+    if before == 0 { // not put out yet
+        return image[words::id_of(w) as usize] == words::header_of(w);
     }
+    words::fetch(list, before - 1) == w
 }
 
-fn group_slot(id: u32) -> usize
-    requires { ⌜ KnownId id × (settingKind (rowAt id) ≡ 2) ⌝ }
-    ensures { λ r. ⌜ r ≡ slotOf id ⌝ }
+// The same of four words.
+fn group_is_built(
+    list: &[u32],
+    image: &[u32],
+    w: u32,
+    b: u32,
+    c: u32,
+    d: u32,
+    before: usize,
+) -> bool
+    requires { ⌜ (idOf w + 4 ≤ length (now image)) × (before + 3 ≤ length (now list)) ⌝ }
+    ensures { λ r. ⌜ r ≡ isBuilt 3 (now (list .entry)) (now (image .entry)) w (b ∷ c ∷ d ∷ []) before ⌝ }
 {
-    if id == 0xC4 {
-        return 20;
+    if before == 0 {
+        let id = words::id_of(w) as usize;
+        return same_group(words::header_of(w), b, c, d, image, id);
     }
-    (id - 0x80) as usize
+    same_group(w, b, c, d, list, before - 1)
 }
 
-// ---- putting out the settings that differ
-
-fn first_word(id: u32, word: u32) -> u32
-    requires { ⌜ id < 256 ⌝ }
-    ensures { λ r. ⌜ r ≡ firstWord id (headerOf word) ⌝ }
-{
-    id * 0x1000000 + word % 0x1000000
-}
-
-fn settle_single(
-    current: &[u32; 24],
-    built: &mut [u32; 24],
+// The setting of one word with a number, where it differs from what the form has built.
+fn emit_single(
+    list: &[u32],
+    image: &[u32],
+    latest: &[u16; 64],
+    sent: &mut [u16; 64],
     out: &mut [u32],
     n: usize,
-    id: u32,
-    i: usize,
+    i: u32,
 ) -> usize
-    requires { ⌜ (i < 24) × (id < 256) × (n < 9223372036854775808) × (length (now current) ≡ 24) × (length (now built) ≡ 24) ⌝ }
-    ensures { λ r. ⌜ Settled 1 id i (now (current .entry)) (now (built .entry)) (now (out .entry)) n r (now (built .exit)) (now (out .exit)) ⌝ }
+    requires { ⌜ CanEmit 0 (now list) (now image) (now latest) i (record { written = n; sent = now sent; out = now out }) ⌝ }
+    ensures { λ r. ⌜ record { written = r; sent = now (sent .exit); out = now (out .exit) } ≡ emitOne 0 (now (list .entry)) (now (image .entry)) (now (latest .entry)) i (record { written = n; sent = now (sent .entry); out = now (out .entry) }) ⌝ }
 {
-    let a = current[i];
-    if built[i] == a {
+    let k = i as usize;
+    let at = latest[k] as usize;
+    let w = words::fetch(list, at);
+    if single_is_built(list, image, w, sent[k] as usize) {
         return n;
     }
-    built[i] = a;
-    put(out, n, first_word(id, a));
+    sent[k] = (at + 1) as u16;
+    words::put(out, n, w);
     n + 1
 }
 
-fn settle_group(
-    current: &[u32; 24],
-    built: &mut [u32; 24],
+// The same of four words.
+fn emit_group(
+    list: &[u32],
+    image: &[u32],
+    latest: &[u16; 64],
+    sent: &mut [u16; 64],
     out: &mut [u32],
     n: usize,
-    id: u32,
-    i: usize,
+    i: u32,
 ) -> usize
-    requires { ⌜ (i + 4 ≤ 24) × (id < 256) × (n < 9223372036854775808) × (length (now current) ≡ 24) × (length (now built) ≡ 24) ⌝ }
-    ensures { λ r. ⌜ Settled 4 id i (now (current .entry)) (now (built .entry)) (now (out .entry)) n r (now (built .exit)) (now (out .exit)) ⌝ }
+    requires { ⌜ CanEmit 3 (now list) (now image) (now latest) i (record { written = n; sent = now sent; out = now out }) ⌝ }
+    ensures { λ r. ⌜ record { written = r; sent = now (sent .exit); out = now (out .exit) } ≡ emitOne 3 (now (list .entry)) (now (image .entry)) (now (latest .entry)) i (record { written = n; sent = now (sent .entry); out = now (out .entry) }) ⌝ }
 {
-    let a = current[i];
-    let b = current[i + 1];
-    let c = current[i + 2];
-    let d = current[i + 3];
-    if ((built[i] == a) & (built[i + 1] == b)) & ((built[i + 2] == c) & (built[i + 3] == d)) {
+    let k = i as usize;
+    let at = latest[k] as usize;
+    let w = words::fetch(list, at);
+    let b = words::fetch(list, at + 1);
+    let c = words::fetch(list, at + 2);
+    let d = words::fetch(list, at + 3);
+    if group_is_built(list, image, w, b, c, d, sent[k] as usize) {
         return n;
     }
-    list::put4(built, i, a, b, c, d);
-    put_group(out, n, first_word(id, a), b, c, d);
+    sent[k] = (at + 1) as u16;
+    put_group(out, n, w, b, c, d);
     n + 4
 }
 
-// A command for each setting that differs, in rising id.
-fn settle(current: &[u32; 24], built: &mut [u32; 24], out: &mut [u32], n: usize) -> usize
-    requires { ⌜ (n < 4611686018427387904) × (length (now current) ≡ 24) × (length (now built) ≡ 24) ⌝ }
-    ensures { λ r. ⌜ Settling 24 settings (now (current .entry)) (now (built .entry)) (now (out .entry)) n r (now (built .exit)) (now (out .exit)) ⌝ }
-{
-    let a = settle_single(current, built, out, n, 0x02, 0);
-    let b = settle_single(current, built, out, a, 0x26, 1);
-    let c = settle_single(current, built, out, b, 0x30, 2);
-    let d = settle_single(current, built, out, c, 0x31, 3);
-    let e = settle_group(current, built, out, d, 0x84, 4);
-    let f = settle_group(current, built, out, e, 0x88, 8);
-    let g = settle_group(current, built, out, f, 0x8C, 12);
-    let h = settle_group(current, built, out, g, 0x90, 16);
-    settle_group(current, built, out, h, 0xC4, 20)
-}
-
-// The same where a setting has been set since the last work command; else nothing differs.
-fn settle_due(
-    changed: bool,
-    current: &[u32; 24],
-    built: &mut [u32; 24],
+fn emit_singles(
+    changed: u64,
+    list: &[u32],
+    image: &[u32],
+    latest: &[u16; 64],
+    sent: &mut [u16; 64],
     out: &mut [u32],
     n: usize,
 ) -> usize
-    requires { ⌜ (n < 4611686018427387904) × (length (now current) ≡ 24) × (length (now built) ≡ 24) ⌝ }
-    ensures { λ r. ⌜ (r ≡ n + length (due changed (now (current .entry)) (now (built .entry)))) × (now (built .exit) ≡ cond changed (now (current .entry)) (now (built .entry))) × (now (out .exit) ≡ sets (now (out .entry)) n (due changed (now (current .entry)) (now (built .entry)))) ⌝ }
+    requires { ⌜ CanEmitEach 0 (now list) (now image) (now latest) (numbers 64 0 (changed % 65536)) (record { written = n; sent = now sent; out = now out }) ⌝ }
+    ensures { λ r. ⌜ record { written = r; sent = now (sent .exit); out = now (out .exit) } ≡ emitEach 0 (now (list .entry)) (now (image .entry)) (now (latest .entry)) (numbers 64 0 (changed % 65536)) (record { written = n; sent = now (sent .entry); out = now (out .entry) }) ⌝ }
 {
-    if changed {
-        return settle(current, built, out, n);
+    let mut m = n;
+    let mut left = changed % 65536;
+    while left != 0 {
+        let i = u64::trailing_zeros(left);
+        left = left & (left - 1);
+        m = emit_single(list, image, latest, sent, out, m, i);
     }
-    n
+    m
+}
+
+fn emit_groups(
+    changed: u64,
+    list: &[u32],
+    image: &[u32],
+    latest: &[u16; 64],
+    sent: &mut [u16; 64],
+    out: &mut [u32],
+    n: usize,
+) -> usize
+    requires { ⌜ CanEmitEach 3 (now list) (now image) (now latest) (numbers 64 16 (changed / 65536)) (record { written = n; sent = now sent; out = now out }) ⌝ }
+    ensures { λ r. ⌜ record { written = r; sent = now (sent .exit); out = now (out .exit) } ≡ emitEach 3 (now (list .entry)) (now (image .entry)) (now (latest .entry)) (numbers 64 16 (changed / 65536)) (record { written = n; sent = now (sent .entry); out = now (out .entry) }) ⌝ }
+{
+    let mut m = n;
+    let mut left = changed >> 16;
+    while left != 0 {
+        let i = u64::trailing_zeros(left);
+        left = left & (left - 1);
+        m = emit_group(list, image, latest, sent, out, m, i + 16);
+    }
+    m
+}
+
+// A command for each setting that differs, in rising id.
+fn emit_changed(
+    changed: u64,
+    list: &[u32],
+    image: &[u32],
+    latest: &[u16; 64],
+    sent: &mut [u16; 64],
+    out: &mut [u32],
+    n: usize,
+) -> usize
+    requires { ⌜ CanEmitChanged changed (now list) (now image) (now latest) (record { written = n; sent = now sent; out = now out }) ⌝ }
+    ensures { λ r. ⌜ record { written = r; sent = now (sent .exit); out = now (out .exit) } ≡ emitChanged changed (now (list .entry)) (now (image .entry)) (now (latest .entry)) (record { written = n; sent = now (sent .entry); out = now (out .entry) }) ⌝ }
+{
+    let m = emit_singles(changed, list, image, latest, sent, out, n);
+    emit_groups(changed, list, image, latest, sent, out, m)
 }
 
 // ---- the pass over an accepted list
 
-fn set_group(current: &mut [u32; 24], list: &[u32], at: usize)
-    requires { ⌜ CommandAt (now list) at × (settingKind (rowAt (idOf (getD (now list) at 0))) ≡ 2) × (length (now current) ≡ 24) ⌝ }
-    ensures { λ _. ⌜ now (current .exit) ≡ currentAfter (now (list .entry)) at (now (current .entry)) ⌝ }
-{
-    let w = command::fetch(list, at);
-    let second = command::fetch(list, at + 1);
-    let third = command::fetch(list, at + 2);
-    let fourth = command::fetch(list, at + 3);
-    list::put4(
-        current,
-        group_slot(command::id_of(w)),
-        command::header_of(w),
-        second,
-        third,
-        fourth,
-    );
-}
-
-fn set_single(current: &mut [u32; 24], list: &[u32], at: usize)
-    requires { ⌜ CommandAt (now list) at × (settingKind (rowAt (idOf (getD (now list) at 0))) ≡ 1) ⌝ }
-    ensures { λ _. ⌜ now (current .exit) ≡ currentAfter (now (list .entry)) at (now (current .entry)) ⌝ }
-{
-    let w = command::fetch(list, at);
-    let i = single_slot(command::id_of(w));
-    current[i] = command::header_of(w);
-}
-
 // A work command: the differing settings, then the command unchanged.
-fn work(
+fn emit_work(
     list: &[u32],
+    image: &[u32],
     d: Draft,
-    current: &[u32; 24],
-    built: &mut [u32; 24],
+    latest: &[u16; 64],
+    sent: &mut [u16; 64],
     out: &mut [u32],
 ) -> Draft
-    requires { ⌜ Drafting (now list) d (now current) (now built) ⌝ }
-    ensures { λ r. ⌜ record { draft = r; current = now (current .entry); built = now (built .exit); out = now (out .exit) } ≡ afterWork (now (list .entry)) (record { draft = d; current = now (current .entry); built = now (built .entry); out = now (out .entry) }) ⌝ }
+    requires { ⌜ CanWork (now list) (now image) (record { draft = d; latest = now latest; sent = now sent; out = now out }) ⌝ }
+    ensures { λ r. ⌜ record { draft = r; latest = now (latest .entry); sent = now (sent .exit); out = now (out .exit) } ≡ afterWork (now (list .entry)) (now (image .entry)) (record { draft = d; latest = now (latest .entry); sent = now (sent .entry); out = now (out .entry) }) ⌝ }
 {
     let at = d.at;
-    let w = command::fetch(list, at);
-    let words = command::command_size(command::id_of(w), command::header_of(w));
-    let n = settle_due(d.changed, current, built, out, d.written);
+    let words = command::command_size(list, at);
+    let n = emit_changed(d.changed, list, image, latest, sent, out, d.written);
     copy(list, at, words, out, n);
     Draft {
         at: at + words,
         written: n + words,
-        changed: false,
+        changed: 0,
+    }
+}
+
+// A setting: its command is the latest of its number, which is below 64, rises with the id, and is below 16 for one word.
+fn take_setting(d: Draft, id: u8, words: usize, latest: &mut [u16; 64]) -> Draft
+    requires { ⌜ (d .at ≤ longest) × (words ≤ 4) × (numberOf id < 64) ⌝ }
+    ensures { λ r. ⌜ (r ≡ record { at = d .at + words; written = d .written; changed = bitOr (d .changed) (2 ^ numberOf id) }) × (now (latest .exit) ≡ set (now (latest .entry)) (numberOf id) (d .at)) ⌝ }
+{
+    let i = (id / 4 + id % 2) as u32;
+    latest[i as usize] = d.at as u16;
+    Draft {
+        at: d.at + words,
+        written: d.written,
+        changed: d.changed | (1 << i),
     }
 }
 
 // One command of an accepted list.
-fn take_one(
+fn take_command(
     list: &[u32],
+    image: &[u32],
     d: Draft,
-    current: &mut [u32; 24],
-    built: &mut [u32; 24],
+    latest: &mut [u16; 64],
+    sent: &mut [u16; 64],
     out: &mut [u32],
 ) -> Draft
-    requires { ⌜ Drafting (now list) d (now current) (now built) ⌝ }
-    ensures { λ r. ⌜ record { draft = r; current = now (current .exit); built = now (built .exit); out = now (out .exit) } ≡ draftAfter (now (list .entry)) (record { draft = d; current = now (current .entry); built = now (built .entry); out = now (out .entry) }) ⌝ }
+    requires { ⌜ CanTake (now list) (now image) (record { draft = d; latest = now latest; sent = now sent; out = now out }) ⌝ }
+    ensures { λ r. ⌜ record { draft = r; latest = now (latest .exit); sent = now (sent .exit); out = now (out .exit) } ≡ afterCommand (now (list .entry)) (now (image .entry)) (record { draft = d; latest = now (latest .entry); sent = now (sent .entry); out = now (out .entry) }) ⌝ }
 {
-    let at = d.at;
-    let written = d.written;
-    let kind = Settings::kind(command::id_of(command::fetch(list, at)));
+    let id = words::id_of(words::fetch(list, d.at));
+    let kind = Settings::kind(id);
     if kind == Settings::GROUP {
-        set_group(current, list, at);
-        return Draft {
-            at: at + 4,
-            written,
-            changed: true,
-        };
+        return take_setting(d, id, 4, latest);
     }
     if kind == Settings::SINGLE {
-        set_single(current, list, at);
-        return Draft {
-            at: at + 1,
-            written,
-            changed: true,
-        };
+        return take_setting(d, id, 1, latest);
     }
-    work(list, d, current, built, out)
+    emit_work(list, image, d, latest, sent, out)
 }
 
 // The form of an accepted list, written as far as the buffer goes, and its length.
@@ -310,18 +292,17 @@ fn form(list: &[u32], image: &[u32], out: &mut [u32]) -> usize
     requires { ⌜ parse (now image) (now list) ≡ accepted (commandsOf (parse (now image) (now list))) ⌝ }
     ensures { λ r. ⌜ (r ≡ length (normalForm (now (image .entry)) (now (list .entry)))) × (now (out .exit) ≡ sets (now (out .entry)) 0 (normalForm (now (image .entry)) (now (list .entry)))) ⌝ }
 {
-    let mut current = [0u32; 24];
-    load(image, &mut current);
-    let mut built = current;
+    let mut latest = [0u16; 64];
+    let mut sent = [0u16; 64];
     let mut d = Draft {
         at: 0,
         written: 0,
-        changed: false,
+        changed: 0,
     };
     while d.at < list.len() {
-        d = take_one(list, d, &mut current, &mut built, out);
+        d = take_command(list, image, d, &mut latest, &mut sent, out);
     }
-    settle_due(d.changed, &current, &mut built, out, d.written)
+    emit_changed(d.changed, list, image, &latest, &mut sent, out, d.written)
 }
 
 // ---- the normaliser
@@ -343,18 +324,23 @@ pub fn normalise(list: &[u32], image: &[u32], out: &mut [u32]) -> Answer
     ensures { λ r. ⌜ record { answer = r; image = now (image .entry); buffer = now (out .exit) } ≡ normalising (now (list .entry)) (now (image .entry)) (now (out .entry)) ⌝ }
 {
     let w = list::check(list, image);
-    let Walked::Accepted(commands, records) = w else {
-        return list::refusal_of(w);
-    };
-    if too_small(list, image, out) {
-        return list::refuse(11, list.len());
-    }
-    let words = form(list, image, out);
-    Answer {
-        verdict: 0,
-        position: list.len(),
-        commands,
-        records,
-        words,
+    match w {
+        Walked::Refused(f) => list::refuse(f),
+        Walked::Accepted(commands, records) => {
+            if too_small(list, image, out) {
+                return list::refuse(Refusal {
+                    number: 11,
+                    word: list.len(),
+                });
+            }
+            let words = form(list, image, out);
+            Answer {
+                verdict: 0,
+                position: list.len(),
+                commands,
+                records,
+                words,
+            }
+        }
     }
 }

@@ -1,6 +1,6 @@
 // The functions that C and Rust call (xp10.h).
-use form::put;
 use rules::Answer;
+use words::put;
 ghost use mathlib.Core.Path.{_≡_};
 ghost use lib.Seq.{sets};
 ghost use Rattle.rules.specs.Answer.{reading, normalising};

@@ -1,5 +1,5 @@
 pub mod Steps
-pub mod Turn
-pub mod Second
-pub mod Playing
+pub mod Position
+pub mod Effects
+pub mod Applying
 pub mod Reading

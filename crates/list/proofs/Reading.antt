@@ -8,12 +8,13 @@ use borrow.Author.Tests.{lt-ltb, le-ltb}
 use lib.ListN.{length, drop}
 use lib.Seq.{sets, sets-eq}
 use Rattle.rules.specs.declared.Answer.{Answer}
+use Rattle.rules.specs.declared.Refusal.{Refusal}
 use Rattle.rules.specs.Command.{Command}
 use Rattle.rules.specs.Values.{refusal}
 use Rattle.rules.specs.Walk.{Parsed, refused, accepted, parse}
 use Rattle.rules.specs.Image.{final}
 use Rattle.rules.specs.Records.{records, recordWords}
-use Rattle.rules.specs.Answer.{Outcome, refusedAnswer, room, readParsed, reading, commandsOf}
+use Rattle.rules.specs.Answer.{Outcome, refuse, room, readParsed, reading, commandsOf}
 use Rattle.rules.proofs.Verdict.{length-recordWords}
 use Rattle.list.specs.declared.Walked.the-variants as walked
 use Rattle.list.specs.View.{walkedOf}
@@ -33,19 +34,14 @@ pub put-front : (buffer ws : List ℕ) → length ws ≤ length buffer → sets 
 put-front buffer ws h = let z : 0 + length ws ≡ length ws = omega arith in sets-eq ws buffer 0 (omega arith) ∙ ap (λ (n : ℕ). ws ++ drop n buffer) z
 
 module _ (l image buffer : List ℕ) where
-  by-refused : (x : Parsed) (n p : ℕ) → walkedOf x ≡ walked.Refused n p
-      → record { answer = refusedAnswer (refusal n p); image = image; buffer = buffer } ≡ readParsed l image buffer x
-  by-refused (refused f) n p e =
-      let en : f .number ≡ n = cc in
-      let ep : f .word ≡ p = cc in
-      rw (en, ep)
-  by-refused (accepted cs) n p e = let z : _≡_ {A = ℕ} 0 1 = cc in absurd (omega arith)
+  by-refused : (x : Parsed) (f : Refusal) → walkedOf x ≡ walked.Refused f → refuse f image buffer ≡ readParsed l image buffer x
+  by-refused (refused g) f e = let eg : f ≡ g = cc in ap (λ (x : Refusal). refuse x image buffer) eg
+  by-refused (accepted cs) f e = let z : _≡_ {A = ℕ} 0 1 = cc in absurd (omega arith)
 
   -- refusals 1 to 10
-  pub read-refused : (n p : ℕ) → walkedOf (parse image l) ≡ walked.Refused n p
-      → record { answer = refusedAnswer (refusal n p); image = image; buffer = buffer } ≡ reading l image buffer
+  pub read-refused : (f : Refusal) → walkedOf (parse image l) ≡ walked.Refused f → refuse f image buffer ≡ reading l image buffer
   unfolding reading
-  read-refused n p e = by-refused (parse image l) n p e
+  read-refused f e = by-refused (parse image l) f e
 
   module _ (c k : ℕ) (e : walkedOf (parse image l) ≡ walked.Accepted c k) where
     cs : List Command
@@ -55,8 +51,7 @@ module _ (l image buffer : List ℕ) where
     n = counts (parse image l) c k e
 
     -- 11
-    pub read-short : length buffer / 4 < k
-        → record { answer = refusedAnswer (refusal 11 (length l)); image = image; buffer = buffer } ≡ reading l image buffer
+    pub read-short : length buffer / 4 < k → refuse (refusal 11 (length l)) image buffer ≡ reading l image buffer
     unfolding reading cs
     read-short h =
         sym (ap (readParsed l image buffer) (n .is) ∙ rw (lt-ltb (room buffer) (length (records 0 (commandsOf (parse image l)))) (omega (arith, n .records-are))))

@@ -6,12 +6,12 @@ use Rattle.rules.specs.Table.{table, rowOf, isBase}
 use Rattle.rules.specs.Command.{payload}
 use Rattle.rules.specs.Values.{faults}
 use Rattle.rules.specs.Decode.{decodeRow, decode}
-use Rattle.rules.specs.Walk.{order, next, step, walk, parse}
+use Rattle.rules.specs.Walk.{outOfOrder, orderAfter, step, walk, parse}
 use Rattle.rules.specs.Answer.{reading}
 use Rattle.report.specs.Text.{hex, decimal, line, twoNumbers}
 use Rattle.report.specs.Listing.{wordsOf, readBytes, listed}
 use Rattle.report.specs.Examples.{every, examples}
 
 pub examples-hold : every examples ≡ true
-unfolding every examples readBytes wordsOf listed line twoNumbers hex decimal reading parse walk step decode decodeRow faults undefined payload order next rowOf table isBase
+unfolding every examples readBytes wordsOf listed line twoNumbers hex decimal reading parse walk step decode decodeRow faults undefined payload outOfOrder orderAfter rowOf table isBase
 examples-hold = refl

@@ -6,11 +6,11 @@ use Rattle.rules.specs.Table.{table, rowOf, settings, isBase}
 use Rattle.rules.specs.Command.{payload}
 use Rattle.rules.specs.Values.{faults}
 use Rattle.rules.specs.Decode.{decodeRow, decode}
-use Rattle.rules.specs.Walk.{order, next, step, walk, parse}
+use Rattle.rules.specs.Walk.{outOfOrder, orderAfter, step, walk, parse}
 use Rattle.rules.specs.Form.{formFrom}
 use Rattle.rules.specs.Answer.{reading, normalising}
 use Rattle.rules.specs.Cases.{every, cases}
 
 pub cases-hold : every cases ≡ true
-unfolding every cases reading normalising parse walk step decode decodeRow faults undefined payload order next rowOf table settings isBase formFrom
+unfolding every cases reading normalising parse walk step decode decodeRow faults undefined payload outOfOrder orderAfter rowOf table settings isBase formFrom
 cases-hold = refl

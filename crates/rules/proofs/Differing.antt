@@ -17,7 +17,8 @@ use Rattle.rules.specs.Form.{read, equal, same, emit, differing}
 use Rattle.rules.proofs.Image.{sets-below, sets-above, sets-read, read-cong, read-at, read-sets, length-read, equal-true, equal-refl}
 use Rattle.rules.proofs.Rows.{Setting, setting-fits, settings-apart, inside, insideAny, inside-from, inside-to, inside-of, setting-inside, AllSettings, settings-all, keeps-outside, begins-outside}
 use Rattle.rules.proofs.Bools.{or-false}
-use Rattle.rules.proofs.Valid.{Valid, AllValid, setting-length, valid-setting}
+use Rattle.rules.specs.Valid.{Valid}
+use Rattle.rules.proofs.Valid.{setting-length}
 
 pub length-leave : (k : Kind) (i h : ℕ) (ws im : List ℕ) → length (leave k i h ws im) ≡ length im
 length-leave setting i h ws im = length-sets im i (h ∷ ws)

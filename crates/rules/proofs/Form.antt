@@ -14,13 +14,14 @@ use Rattle.rules.specs.Word.{idOf, headerOf}
 use Rattle.rules.specs.Table.{Kind, setting, plain, keeps, begins, Row, rowOf, isSetting, isBegin, isBase, size, settings}
 use Rattle.rules.specs.Command.{Command, words, wordsAll}
 use Rattle.rules.specs.Image.{leave, apply, final}
-use Rattle.rules.specs.Walk.{State, start, order, next, accepted, parse}
+use Rattle.rules.specs.Walk.{Order, State, outOfOrder, orderAfter, accepted, parse}
 use Rattle.rules.specs.Effect.{Work, works, Effect, effect}
 use Rattle.rules.specs.Form.{read, equal, same, emit, differing, formFrom, form}
 use Rattle.rules.proofs.Image.{equal-refl, length-read}
 use Rattle.rules.proofs.Rows.{Setting, settings-apart, AllSettings, settings-all, setting-base, sizeAt, setting-once}
-use Rattle.rules.proofs.Valid.{Valid, AllValid, setting-length, valid-setting}
-use Rattle.rules.proofs.Parse.{InOrder, Accepted, parse-accepted, parse-words}
+use Rattle.rules.specs.Valid.{Valid, AllValid, InOrder, Accepted}
+use Rattle.rules.proofs.Valid.{setting-length, valid-setting}
+use Rattle.rules.proofs.Parse.{parse-accepted, parse-words}
 use Rattle.rules.proofs.Differing.{length-apply, final-append, Near, near-refl, near-setting, setting-other, flush, differing-none}
 
 -- the two cases of a command
@@ -182,57 +183,53 @@ form-valid = by-cases (λ fi im cs. AllValid (formFrom fi im cs))
 
 -- ---- the form keeps the order rules
 
-no-flip : (b : Bool) (k : Kind) → k ≡ setting → cond {A = Option ℕ} (b && not (isBegin k)) (some 10) none ≡ none → b ≡ false
-no-flip true k e f = let g : cond {A = Option ℕ} (not (isBegin setting)) (some 10) none ≡ none = rw e at f in cc
-no-flip false k e f = refl
+-- the law of settings: they are all in order where one is, and one in order leaves what the rules on order need as it is
+SettingsFit : Order → Type 0
+SettingsFit o = (c : Command) (im : List ℕ) → Setting (c .row) → (outOfOrder (record { order = o; image = im }) c ≡ none) × (orderAfter o c ≡ o)
 
--- a setting that is in order stands where no flip is open, and leaves none open; where none is open it is in order
-setting-no-flip : (s : State) (c : Command) → Setting (c .row) → order s c ≡ none → s .flip ≡ false
-unfolding order
-setting-no-flip s c x e = no-flip (s .flip) (c .row .kind) (x .kind) e
+setting-kind : (b : Bool) (k : Kind) → k ≡ setting → cond {A = Option ℕ} (b && not (isBegin k)) (some 10) none ≡ none → b ≡ false
+setting-kind true k e f = let g : cond {A = Option ℕ} (not (isBegin setting)) (some 10) none ≡ none = rw e at f in cc
+setting-kind false k e f = refl
 
-setting-next : (s : State) (c : Command) → Setting (c .row) → next s c ≡ record { flip = false; image = apply c (s .image) }
-unfolding next
-setting-next s c x = rw (setting-base (c .row) x)
+setting-order : (o : Order) (im : List ℕ) (c : Command) → Setting (c .row) → outOfOrder (record { order = o; image = im }) c ≡ none → SettingsFit o
+unfolding SettingsFit outOfOrder orderAfter
+setting-order o im c s e d jm t =
+    let off : o .flip ≡ false = setting-kind (o .flip) (c .row .kind) (s .kind) e in
+    (rw off, ap (λ (b : Bool). record { flip = b }) (setting-base (d .row) t ∙ sym off))
 
-setting-order : (im : List ℕ) (c : Command) → order (record { flip = false; image = im }) c ≡ none
-unfolding order
-setting-order im c = refl
-
-quiet-order : (im : List ℕ) (qs cs : List Command) → Quiet qs → InOrder (record { flip = false; image = final im qs }) cs
-    → InOrder (record { flip = false; image = im }) (qs ++ cs)
-quiet-order im [] cs q f = f
-quiet-order im (c ∷ qs) cs q f = (
-  setting-order im c,
-  subst (λ (t : State). InOrder t (qs ++ cs)) (sym (setting-next (record { flip = false; image = im }) c (q .0)))
-      (quiet-order (apply c im) qs cs (q .1) f),
+quiet-order : (o : Order) → SettingsFit o → (im : List ℕ) (qs cs : List Command) → Quiet qs → InOrder (record { order = o; image = final im qs }) cs
+    → InOrder (record { order = o; image = im }) (qs ++ cs)
+unfolding SettingsFit
+quiet-order o ok im [] cs q f = f
+quiet-order o ok im (c ∷ qs) cs q f = (
+  ok c im (q .0) .0,
+  subst (λ (p : Order). InOrder (record { order = p; image = apply c im }) (qs ++ cs)) (sym (ok c im (q .0) .1)) (quiet-order o ok (apply c im) qs cs (q .1) f),
 )
 
--- the differing settings before cs: none where a flip is open
-order-out : (flip : Bool) (fi im : List ℕ) (cs : List Command) → Near fi im → (flip ≡ true → fi ≡ im)
-    → InOrder (record { flip = flip; image = im }) cs → InOrder (record { flip = flip; image = fi }) (differing settings fi im ++ cs)
-order-out true fi im cs n h f =
-    subst (λ (m : List ℕ). InOrder (record { flip = true; image = m }) (differing settings m im ++ cs)) (sym (h refl))
-    (subst (λ (l : List Command). InOrder (record { flip = true; image = im }) (l ++ cs)) (sym (differing-none settings im)) f)
-order-out false fi im cs n h f =
-    quiet-order fi (differing settings fi im) cs (all-quiet fi im)
-    (subst (λ (m : List ℕ). InOrder (record { flip = false; image = m }) cs) (sym (flush fi im n)) f)
+-- the differing settings before cs: none where no setting fits
+order-out : (o : Order) (fi im : List ℕ) (cs : List Command) → Near fi im → SettingsFit o ⊎ (fi ≡ im)
+    → InOrder (record { order = o; image = im }) cs → InOrder (record { order = o; image = fi }) (differing settings fi im ++ cs)
+order-out o fi im cs n (inl ok) f =
+    quiet-order o ok fi (differing settings fi im) cs (all-quiet fi im)
+    (subst (λ (m : List ℕ). InOrder (record { order = o; image = m }) cs) (sym (flush fi im n)) f)
+order-out o fi im cs n (inr h) f =
+    subst (λ (m : List ℕ). InOrder (record { order = o; image = m }) (differing settings m im ++ cs)) (sym h)
+    (subst (λ (l : List Command). InOrder (record { order = o; image = im }) (l ++ cs)) (sym (differing-none settings im)) f)
 
-form-order : (fi im : List ℕ) (cs : List Command) → Near fi im → AllValid cs → (flip : Bool) → (flip ≡ true → fi ≡ im)
-    → InOrder (record { flip = flip; image = im }) cs → InOrder (record { flip = flip; image = fi }) (formFrom fi im cs)
-unfolding next
-form-order = by-cases (λ fi im cs. (flip : Bool) → (flip ≡ true → fi ≡ im)
-    → InOrder (record { flip = flip; image = im }) cs → InOrder (record { flip = flip; image = fi }) (formFrom fi im cs))
-    (λ fi im n flip h f. subst (InOrder (record { flip = flip; image = fi })) (append-nil (differing settings fi im) ∙ sym (form-nil fi im))
-    (order-out flip fi im [] n h tt))
-    (λ fi im c cs n v x e vs n′ ih flip h f.
-    let off : flip ≡ false = setting-no-flip (record { flip = flip; image = im }) c x (f .0) in
-    let later : InOrder (record { flip = false; image = fi }) (formFrom fi (apply c im) cs) =
-    ih false (λ t. cc) (subst (λ (t : State). InOrder t cs) (setting-next (record { flip = flip; image = im }) c x) (f .1)) in
-    subst (λ (b : Bool). InOrder (record { flip = b; image = fi }) (formFrom fi im (c ∷ cs))) (sym off)
-    (subst (InOrder (record { flip = false; image = fi })) (sym (form-setting fi im c cs e)) later))
-    (λ fi im c cs n v e vs ih flip h f. subst (InOrder (record { flip = flip; image = fi })) (sym (form-work fi im c cs e n))
-    (order-out flip fi im (c ∷ formFrom (apply c im) (apply c im) cs) n h (f .0, ih (isBase (c .row .id)) (λ x. refl) (f .1))))
+-- a work command meets the same state in the form as in the list
+form-order : (fi im : List ℕ) (cs : List Command) → Near fi im → AllValid cs → (o : Order) → SettingsFit o ⊎ (fi ≡ im)
+    → InOrder (record { order = o; image = im }) cs → InOrder (record { order = o; image = fi }) (formFrom fi im cs)
+unfolding SettingsFit
+form-order = by-cases (λ fi im cs. (o : Order) → SettingsFit o ⊎ (fi ≡ im)
+    → InOrder (record { order = o; image = im }) cs → InOrder (record { order = o; image = fi }) (formFrom fi im cs))
+    (λ fi im n o h f. subst (InOrder (record { order = o; image = fi })) (append-nil (differing settings fi im) ∙ sym (form-nil fi im))
+    (order-out o fi im [] n h tt))
+    (λ fi im c cs n v x e vs n′ ih o h f.
+    let ok : SettingsFit o = setting-order o im c x (f .0) in
+    subst (InOrder (record { order = o; image = fi })) (sym (form-setting fi im c cs e))
+    (ih o (inl ok) (subst (λ (p : Order). InOrder (record { order = p; image = apply c im }) cs) (ok c im x .1) (f .1))))
+    (λ fi im c cs n v e vs ih o h f. subst (InOrder (record { order = o; image = fi })) (sym (form-work fi im c cs e n))
+    (order-out o fi im (c ∷ formFrom (apply c im) (apply c im) cs) n h (f .0, ih (orderAfter o c) (inr refl) (f .1))))
 
 -- ---- the form is no longer than the list
 
@@ -329,7 +326,7 @@ module _ (im ws : List ℕ) (cs : List Command) (e : parse im ws ≡ accepted cs
   pub form-accepted : parse im (wordsAll (form im cs)) ≡ accepted (form im cs)
   form-accepted =
       parse-words im (form im cs) (omega (arith, form-fits, a .few)) (a .whole)
-      (form-valid im im cs n (a .parses .valid)) (form-order im im cs n (a .parses .valid) false (λ x. refl) (a .parses .ordered))
+      (form-valid im im cs n (a .parses .valid)) (form-order im im cs n (a .parses .valid) (record { flip = false }) (inr refl) (a .parses .ordered))
 
   pub form-same : effect im (form im cs) ≡ effect im cs
   form-same = ap₂ {C = Effect} (λ d l. record { done = d; left = l }) (form-works im im cs n (a .parses .valid)) (form-final im im cs n (a .parses .valid))

@@ -11,10 +11,10 @@ use lib.ListN.{length, getD, take, length-take}
 use Rattle.rules.specs.declared.Refusal.{Refusal}
 use Rattle.rules.specs.Word.{idOf, headerOf}
 use Rattle.rules.specs.Table.{Row, rowOf, isBegin}
-use Rattle.rules.specs.Command.{Command, moreMasks, payload}
+use Rattle.rules.specs.Command.{Command, moreMasks, ownSize, restSize}
 use Rattle.rules.specs.Values.{refusal, Fault, undefinedFaults, valueFaults, loadFaults, primitiveFaults, clipFaults, rasterFaults, faults}
 use Rattle.rules.specs.Decode.{Decoded, bad, good, firstFault, unknown, decodeKnown, decodeRow, decode}
-use Rattle.rules.specs.Walk.{State, start, order, next, Step, stop, took, inOrder, stepDecoded, step, Parsed, refused, accepted, andThen, onward, walk, sized, parse}
+use Rattle.rules.specs.Walk.{State, start, outOfOrder, next, Step, stop, took, inOrder, stepDecoded, step, Parsed, refused, accepted, andThen, onward, walk, sized, parse}
 use Rattle.rules.proofs.Bools.{and-left, and-right}
 
 -- a refusal has a number that is not 0, and its word is at most m
@@ -85,8 +85,8 @@ row-refuses : (r : Row) (h : ℕ) (ws : List ℕ) → Refuses (3 + length ws) (d
 unfolding decodeRow
 row-refuses r h ws =
     let m : ℕ = 3 + length ws in
-    let own : ℕ = length (moreMasks r h) in
-    let all : ℕ = own + payload (r .id) h in
+    let own : ℕ = ownSize r h in
+    let all : ℕ = restSize r h ws in
     let c : Command = record { row = r; header = h; rest = take all ws } in
     let whole : Decoded = cond (ltb (length ws) all) (bad (refusal 9 0)) (good c) in
     let first : (n : ℕ) → eqb n 0 ≡ false → Proper m (refusal n 0) = λ n e. record { number = e; near = omega arith } in
@@ -111,9 +111,9 @@ order-refuses m true c t = record { number = refl; near = omega arith }
 order-refuses m false c t = tt
 
 step-refuses : (m : ℕ) (s : State) (d : Decoded) → Refuses m d → RefusesStep m (stepDecoded s d)
-unfolding order
+unfolding outOfOrder
 step-refuses m s (bad f) p = p
-step-refuses m s (good c) p = order-refuses m (s .flip && not (isBegin (c .row .kind))) c (next s c)
+step-refuses m s (good c) p = order-refuses m (s .order .flip && not (isBegin (c .row .kind))) c (next s c)
 
 abbrev pub RefusesList : ℕ → Parsed → Type 0
 RefusesList m (refused f) = Proper m f

@@ -17,7 +17,7 @@ use Rattle.rules.specs.Records.{records, recordWords, withoutPositions}
 use Rattle.rules.specs.Effect.{Effect, effect, works}
 use Rattle.rules.specs.Form.{form}
 use Rattle.rules.specs.Answer.{Outcome, refuse, accept, fitting, room, readParsed, normaliseParsed, reading, normalising, commandsOf, does, normalForm, written}
-use Rattle.rules.proofs.Valid.{AllValid}
+use Rattle.rules.specs.Valid.{AllValid}
 use Rattle.rules.proofs.Parse.{parse-accepted}
 use Rattle.rules.proofs.Differing.{sets-outside}
 use Rattle.rules.proofs.Form.{form-accepted, form-fits, form-same, same-form, same-effect, normal-again}

@@ -11,24 +11,14 @@ use lib.Dec.{eqb, ltb}
 use lib.Pow.{split, high, low, pow-pos}
 use borrow.Author.Tests.{eqb-true, eq-eqb, not-false, ltb-false, le-ltb}
 use lib.ListN.{length, take, drop, length-append, take-append-drop}
-use lib.Seq.{take-take, take-append-seam, take-length, length-take-le}
 use Rattle.rules.specs.Word.{idOf, headerOf, firstWord}
 use Rattle.rules.specs.Table.{Row, table, find, rowOf}
-use Rattle.rules.specs.Command.{Command, words, wordsAll}
-use Rattle.rules.specs.Decode.{Decoded, bad, good, decodeRow, decodeKnown, decode}
-use Rattle.rules.specs.Walk.{State, start, order, next, Step, stop, took, inOrder, stepDecoded, step, Parsed, refused, accepted, andThen, onward, walk, sized, parse}
+use Rattle.rules.specs.Command.{Command, words, wordsAll, restSize}
+use Rattle.rules.specs.Decode.{Decoded, bad, good, decodeKnown, decode}
+use Rattle.rules.specs.Walk.{State, start, outOfOrder, next, Step, stop, took, inOrder, stepDecoded, step, Parsed, refused, accepted, andThen, onward, walk, sized, parse}
 use Rattle.rules.proofs.Rows.{found-step}
-use Rattle.rules.proofs.Valid.{Valid, AllValid, restSize, Passed, passed, passed-length, valid-length}
-
--- no command is refused for its order
-abbrev pub InOrder : State → List Command → Type 0
-InOrder s [] = Unit {0}
-InOrder s (c ∷ cs) = (order s c ≡ none) × InOrder (next s c) cs
-
-pub record Parses (s : State) (ws : List ℕ) (cs : List Command) : Type 0 where
-  pub words-are : ws ≡ wordsAll cs
-  pub valid : AllValid cs
-  pub ordered : InOrder s cs
+use Rattle.rules.specs.Valid.{Valid, AllValid, InOrder, Parses, Accepted}
+use Rattle.rules.proofs.Valid.{passed, passed-length, passed-valid, valid-passes}
 
 found-id : (rows : List Row) (i : ℕ) (r : Row) → find i rows ≡ some r → r .id ≡ i
 found-id [] i r e = cc
@@ -55,21 +45,13 @@ module _ (w : ℕ) (ws : List ℕ) (c : Command) where
   known-read (some r) er e =
       let p = passed r (headerOf w) ws c e in
       let n = passed-length r (headerOf w) ws c p in
-      let k : ℕ = restSize r (headerOf w) in
       let ei : r .id ≡ idOf w = row-id _ r er in
-      let rest : take k ws ≡ c .rest = ap (λ (x : Command). x .rest) (p .is) in
-      let dec : decodeRow r (headerOf w) (c .rest) ≡ good c =
-      p .again (c .rest) (omega arith) (ap (take k) (sym rest) ∙ take-take k k ws (omega arith)) in
-      let valid′ : Valid (record { row = r; header = headerOf w; rest = take k ws }) = record {
-        found = ap rowOf ei ∙ er;
-        small = mod-lt w (pow-pos 24);
-        decoded = ap (decodeRow r (headerOf w)) rest ∙ dec ∙ ap good (sym (p .is));
-      } in
+      let rest : take (restSize r (headerOf w) ws) ws ≡ c .rest = ap (λ (x : Command). x .rest) (p .is) in
       record {
         first = sym (split w 24) ∙ ap₂ (λ (i h : ℕ). firstWord i h) (sym ei ∙ ap (λ (x : Command). x .row .id) (p .is)) (ap (λ (x : Command). x .header) (p .is));
         enough = omega (arith, p .enough);
         rest-is = ap (λ (j : ℕ). take j ws) n ∙ rest;
-        valid = subst Valid (p .is) valid′;
+        valid = passed-valid r (headerOf w) ws c p (ap rowOf ei ∙ er) (mod-lt w (pow-pos 24));
       }
 
   pub decode-read : decode w ws ≡ good c → Read w ws c
@@ -79,29 +61,23 @@ module _ (w : ℕ) (ws : List ℕ) (c : Command) where
 -- a valid command's words decode to it, whatever follows them
 pub decode-words : (c : Command) (tail : List ℕ) → Valid c → decode (firstWord (c .row .id) (c .header)) (c .rest ++ tail) ≡ good c
 unfolding decode
-decode-words c tail v =
-    let p = passed (c .row) (c .header) (c .rest) c (v .decoded) in
-    let n = valid-length c v in
-    let e : decodeRow (c .row) (c .header) (c .rest ++ tail) ≡ good c =
-    p .again (c .rest ++ tail) (omega (arith, length-append (c .rest) tail))
-    (ap (λ (j : ℕ). take j (c .rest ++ tail)) (sym n) ∙ take-append-seam (c .rest) tail ∙ sym (take-length (c .rest)) ∙ ap (λ (j : ℕ). take j (c .rest)) n) in
-    rw (high (c .row .id) 24 (v .small), v .found, low (c .row .id) 24 (v .small)) e
+decode-words c tail v = rw (high (c .row .id) 24 (v .small), v .found, low (c .row .id) 24 (v .small)) (valid-passes c tail v)
 
 -- a step that took a command
 pub record Took (s : State) (w : ℕ) (ws : List ℕ) (c : Command) (t : State) : Type 0 where
   pub decoded : decode w ws ≡ good c
   pub read : Read w ws c
-  pub ordered : order s c ≡ none
+  pub ordered : outOfOrder s c ≡ none
   pub after : t ≡ next s c
 
 module _ (s : State) (w : ℕ) (ws : List ℕ) (c : Command) (t : State) where
-  order-took : (d : Command) → decode w ws ≡ good d → (o : Option ℕ) → order s d ≡ o → inOrder o d (next s d) ≡ took c t → Took s w ws c t
+  order-took : (d : Command) → decode w ws ≡ good d → (o : Option ℕ) → outOfOrder s d ≡ o → inOrder o d (next s d) ≡ took c t → Took s w ws c t
   order-took d ed (some m) eo e = let z : _≡_ {A = ℕ} 0 1 = cc in absurd (omega arith)
   order-took d ed none eo e =
       let ec : d ≡ c = cc in
       let et : next s d ≡ t = cc in
       let dec : decode w ws ≡ good c = ed ∙ ap good ec in
-      record { decoded = dec; read = decode-read w ws c dec; ordered = ap (order s) (sym ec) ∙ eo; after = sym et ∙ ap (next s) ec }
+      record { decoded = dec; read = decode-read w ws c dec; ordered = ap (outOfOrder s) (sym ec) ∙ eo; after = sym et ∙ ap (next s) ec }
 
   decoded-took : (x : Decoded) → decode w ws ≡ x → stepDecoded s x ≡ took c t → Took s w ws c t
   decoded-took (bad f) ed e = let z : _≡_ {A = ℕ} 0 1 = cc in absurd (omega arith)
@@ -111,7 +87,7 @@ module _ (s : State) (w : ℕ) (ws : List ℕ) (c : Command) (t : State) where
   unfolding step
   step-took e = decoded-took _ refl e
 
-pub step-words : (s : State) (c : Command) (tail : List ℕ) → Valid c → order s c ≡ none
+pub step-words : (s : State) (c : Command) (tail : List ℕ) → Valid c → outOfOrder s c ≡ none
     → step s (firstWord (c .row .id) (c .header)) (c .rest ++ tail) ≡ took c (next s c)
 unfolding step
 step-words s c tail v eo = rw (decode-words c tail v, eo)
@@ -161,11 +137,6 @@ walk-words s p (c ∷ cs) v f =
     ∙ ap (andThen c) (walk-skip (next s c) (suc p) (c .rest) (wordsAll cs) ∙ walk-words (next s c) (suc p + length (c .rest)) cs (v .1) (f .1))
 
 -- the whole list
-pub record Accepted (image ws : List ℕ) (cs : List Command) : Type 0 where
-  pub few : length ws ≤ 4096
-  pub whole : length image ≡ 256
-  pub parses : Parses (start image) ws cs
-
 sized-accepted : (a b : Bool) (x : Parsed) (cs : List Command) → sized a b x ≡ accepted cs → (a ≡ false) × (b ≡ false) × (x ≡ accepted cs)
 sized-accepted true b x cs e = (cc, cc, cc)
 sized-accepted false true x cs e = (cc, cc, cc)
@@ -188,3 +159,8 @@ parse-words image cs few whole v f =
     let a : ltb 4096 (length (wordsAll cs)) ≡ false = le-ltb 4096 (length (wordsAll cs)) few in
     let b : eqb (length image) 256 ≡ true = eq-eqb (length image) 256 whole in
     rw (a, b) (walk-words (start image) 0 cs v f)
+
+pub accepted-parse : (image ws : List ℕ) (cs : List Command) → Accepted image ws cs → parse image ws ≡ accepted cs
+accepted-parse image ws cs a =
+    let e = a .parses .words-are in
+    ap (parse image) e ∙ parse-words image cs (omega (arith, a .few, ap length e)) (a .whole) (a .parses .valid) (a .parses .ordered)

@@ -12,7 +12,7 @@ use Rattle.rules.specs.Command.{Command, words, wordsAll}
 use Rattle.rules.specs.Image.{apply}
 use Rattle.rules.specs.Records.{Record, records, recordWords, withoutPositions}
 use Rattle.rules.specs.Effect.{Work, works}
-use Rattle.rules.proofs.Valid.{AllValid}
+use Rattle.rules.specs.Valid.{AllValid}
 
 -- a record without its position: id, length, header
 pub record Unplaced : Type 0 where

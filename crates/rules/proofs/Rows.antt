@@ -53,9 +53,9 @@ ok r s = implied (isSetting (r .kind)) _ (found-passes settingOk table (r .id) r
 pub setting-fits : (r : Row) → Setting r → r .id + size r ≤ 256
 setting-fits r s = leb-true _ _ (and-left (leb (r .id + size r) 256) _ (ok r s))
 
-pub setting-payload : (r : Row) → Setting r → (h : ℕ) → payload (r .id) h ≡ 0
+pub setting-payload : (r : Row) → Setting r → (h : ℕ) (own : List ℕ) → payload (r .id) h own ≡ 0
 unfolding payload
-setting-payload r s h =
+setting-payload r s h own =
     let e : eqb (r .id) 0x40 ≡ false = not-true _ (and-left (not (eqb (r .id) 0x40)) _ (and-right (leb (r .id + size r) 256) _ (ok r s))) in
     rw e
 

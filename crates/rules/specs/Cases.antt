@@ -3,7 +3,7 @@ use Prim.Native.Nat.{ℕ}
 use mathlib.Core.Bool.{Bool, true, false, _&&_}
 use mathlib.Core.List.{List, [], _∷_}
 use lib.Dec.{eqb}
-use lib.ListN.{getD, replicate, set}
+use lib.ListN.{length, getD, replicate, set}
 use Rattle.rules.specs.Form.{equal}
 use Rattle.rules.specs.Answer.{Outcome, reading, normalising, written}
 
@@ -27,15 +27,24 @@ buffer = replicate 16 0
 answered : ℕ → ℕ → Outcome → Bool
 answered n p o = eqb (o .answer .verdict) n && eqb (o .answer .position) p
 
+-- the reader and the normaliser answer alike
+alike : ℕ → ℕ → List ℕ → List ℕ → Bool
+alike n p ws image = answered n p (reading ws image buffer) && answered n p (normalising ws image buffer)
+
+accepts : List ℕ → List ℕ → Bool
+accepts ws image = alike 0 (length ws) ws image && eqb (reading ws image buffer .answer .commands) (normalising ws image buffer .answer .commands)
+
+-- a form is accepted too, and leaves the same image
 holds : List ℕ → List ℕ → Want → Bool
-holds ws image (refusedAt n p) = answered n p (reading ws image buffer) && answered n p (normalising ws image buffer)
-holds ws image (commands k) = eqb (reading ws image buffer .answer .verdict) 0 && eqb (reading ws image buffer .answer .commands) k
-holds ws image (imageWord i w) = eqb (reading ws image buffer .answer .verdict) 0 && eqb (getD (reading ws image buffer .image) i 0) w
+holds ws image (refusedAt n p) = alike n p ws image
+holds ws image (commands k) = accepts ws image && eqb (normalising ws image buffer .answer .commands) k
+holds ws image (imageWord i w) = accepts ws image && eqb (getD (reading ws image buffer .image) i 0) w
 holds ws image (normalFormIs us) =
-    eqb (normalising ws image buffer .answer .verdict) 0 && equal (written (normalising ws image buffer)) us
+    (accepts ws image && equal (written (normalising ws image buffer)) us)
+    && (accepts us image && equal (reading us image buffer .image) (reading ws image buffer .image))
 
 unfoldable pub every : List Case → Bool
-unfolding holds answered
+unfolding holds accepts alike answered
 every [] = true
 every (c ∷ cs) = holds (c .list) (c .start) (c .want) && every cs
 

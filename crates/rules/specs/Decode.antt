@@ -1,5 +1,5 @@
 -- One command by itself: refusals 3 to 9 (document 01, "Verdicts and what stays").
-use Prim.Native.Nat.{ℕ, _+_}
+use Prim.Native.Nat.{ℕ}
 use mathlib.Core.Bool.{cond, _||_}
 use mathlib.Core.List.{List, [], _∷_}
 use mathlib.Core.Option.{Option, none, some}
@@ -7,7 +7,7 @@ use lib.Dec.{eqb, ltb}
 use lib.ListN.{length, take}
 use Rattle.rules.specs.Word.{idOf, headerOf}
 use Rattle.rules.specs.Table.{Row, rowOf}
-use Rattle.rules.specs.Command.{Command, moreMasks, payload}
+use Rattle.rules.specs.Command.{Command, ownSize, restSize}
 use Rattle.rules.specs.declared.Refusal.{Refusal}
 use Rattle.rules.specs.Values.{refusal, Fault, faults}
 
@@ -24,8 +24,8 @@ firstFault (f ∷ fs) d = cond (f .found) (bad (f .why)) (firstFault fs d)
 -- the command of a row with a header, before the words that follow it in the list
 unfoldable pub decodeRow : Row → ℕ → List ℕ → Decoded
 decodeRow r h ws =
-    let own = length (moreMasks r h) in
-    let all = own + payload (r .id) h in
+    let own = ownSize r h in
+    let all = restSize r h ws in
     let whole = cond (ltb (length ws) all) (bad (refusal 9 0)) (good (record { row = r; header = h; rest = take all ws })) in
     cond (ltb (length ws) own) (bad (refusal 5 0)) (firstFault (faults r h (take own ws)) whole)
 

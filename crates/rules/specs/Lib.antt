@@ -5,6 +5,7 @@ pub mod Values
 pub mod Decode
 pub mod Image
 pub mod Walk
+pub mod Valid
 pub mod Records
 pub mod Effect
 pub mod Form

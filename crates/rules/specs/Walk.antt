@@ -12,22 +12,29 @@ use Rattle.rules.specs.Values.{refusal}
 use Rattle.rules.specs.Decode.{Decoded, bad, good, decode}
 use Rattle.rules.specs.Image.{apply}
 
--- what is carried along a list: that the last command was a surface base, and the image that the next command meets
-pub record State : Type 0 where
+-- what the rules on order need of the commands passed: whether the last was a surface base
+pub record Order : Type 0 where
   pub flip : Bool
+
+-- what is carried along a list: that, and the image that the next command meets
+pub record State : Type 0 where
+  pub order : Order
   pub image : List ℕ
 
 abbrev pub start : List ℕ → State
-start image = record { flip = false; image = image }
+start image = record { order = record { flip = false }; image = image }
 
 -- Flip (001, 3.3): "after a surface base command (21, 23 or 25) the list ends, or the next command is a BEGIN".
 -- 10: "this command follows a surface base and is not a BEGIN"
-unfoldable pub order : State → Command → Option ℕ
-order s c = cond (s .flip && not (isBegin (c .row .kind))) (some 10) none
+unfoldable pub outOfOrder : State → Command → Option ℕ
+outOfOrder s c = cond (s .order .flip && not (isBegin (c .row .kind))) (some 10) none
+
+unfoldable pub orderAfter : Order → Command → Order
+orderAfter o c = record { flip = isBase (c .row .id) }
 
 -- "The image met by a work command is the one just before it."
-unfoldable pub next : State → Command → State
-next s c = record { flip = isBase (c .row .id); image = apply c (s .image) }
+abbrev pub next : State → Command → State
+next s c = record { order = orderAfter (s .order) c; image = apply c (s .image) }
 
 -- one step: a refusal, its word counted from the command's first; or the command, and the state after it
 pub data Step : Type 0 where
@@ -40,7 +47,7 @@ inOrder none c t = took c t
 
 abbrev pub stepDecoded : State → Decoded → Step
 stepDecoded s (bad f) = stop f
-stepDecoded s (good c) = inOrder (order s c) c (next s c)
+stepDecoded s (good c) = inOrder (outOfOrder s c) c (next s c)
 
 unfoldable pub step : State → ℕ → List ℕ → Step
 step s w ws = stepDecoded s (decode w ws)

@@ -4,7 +4,7 @@
 // "A bad list is refused with a number and a word position."
 pub struct Refusal {
     pub number: u32,
-    pub word: u32,
+    pub word: usize,
 }
 
 // "The answer has verdict, position, commands, records, and words written to the lent buffer."

@@ -1,9 +1,6 @@
-use mathlib.Core.Path.{refl, ap, _∙_}
-use mathlib.Core.List.{[]}
+use mathlib.Core.Path.{ap, _∙_}
 use borrow.Author.Tests.{lt-ltb, le-ltb, eq-eqb, ne-eqb}
-use Rattle.rules.specs.Walk.{start, parse}
-use Rattle.rules.proofs.Walk.{walk-image}
-use Rattle.list.specs.View.{walkedOf}
+use Rattle.rules.specs.Walk.{parse}
 use borrow.Author.Needs.{needs}
 use Rattle.list.proofs.check.Statement.{statement}
 use Rattle.list.proofs.check.Tie as tie
@@ -18,12 +15,9 @@ returns-2 c = rw (le-ltb _ _ (c .before .if1 .left), ne-eqb _ _ (c .if2 .taken))
 
 returns-3 : tie.Need-returns-3
 unfolding parse
-returns-3 c =
-    let a = c .before .before .before .before .before .before .before .before .before in
-    rw (le-ltb _ _ (c .before .before .before .before .before .before .if1 .left), eq-eqb _ _ (c .before .before .before .before .before .if2 .left))
-    (c .walk .ensures ∙ ap walkedOf (walk-image (start []) (start (a .args .image .now)) 0 0 (a .args .list .now) refl))
+returns-3 c = rw (le-ltb _ _ (c .before .before .before .before .if1 .left), eq-eqb _ _ (c .before .before .before .if2 .left)) (c .walk .ensures (c .before .before .before .before .before .before .before .args .image .now))
 
 pub check-spec : {M : Type 1} → statement M
 check-spec =
     tie.close
-    (tie.spec returns returns-2 (λ c κs. search needs) (λ c κs. search needs) (λ c κs. search needs) returns-3)
+    (tie.spec returns returns-2 (λ c κs. search needs) (λ c κs. search needs) returns-3)

@@ -1,45 +1,50 @@
-use Prim.Native.Nat.{_-_}
 use native.Mathlib.Omega.{arith}
-use borrow.Author.Needs.{needs}
+use Prim.Native.Nat.{_-_}
 use mathlib.Core.Path.{sym, ap, _∙_}
 use lib.ListN.{length}
-use Rattle.list.specs.View.{stoppedOf}
-use Rattle.list.proofs.Steps.{Going, going-start, going-stop, going-on, going-end}
+use Rattle.list.proofs.Steps.{Walking, walking-start, walking-stop, walking-on, walking-end}
+use borrow.Author.Needs.{needs}
 use Rattle.list.proofs.walk.Statement.{statement}
 use Rattle.list.proofs.walk.Tie as tie
 
 abbrev Inv-loop : tie.InvT-loop
-Inv-loop rows masks list c₀ c = Going list c
+Inv-loop rows list c₀ c = Walking list c
 
 abbrev μ-loop : tie.MeasureT-loop
-μ-loop rows masks list c₀ c = length list - c .at
+μ-loop rows list c₀ c = length list - c .at
 
 start-requires : tie.Need-start-requires Inv-loop μ-loop
 start-requires c κs = tt
 
 loop-holds : tie.Need-loop-holds Inv-loop μ-loop
-loop-holds c = rw (c .start .ensures) (going-start _)
+loop-holds c = rw (c .start .ensures) (walking-start _)
 
 step-requires : tie.Need-step-requires Inv-loop μ-loop
-step-requires c κs = (c .before .before .loop .inv .counted, c .if1 .taken, c .before .before .before .before .before .pre .0, c .before .before .before .before .before .pre .1)
+step-requires c κs = (c .before .before .loop .inv .counted, c .if1 .taken, c .before .before .before .before .before .pre)
+
+enum-known-s : tie.Need-enum-known-s Inv-loop μ-loop
+enum-known-s c = search needs
 
 returns : tie.Need-returns Inv-loop μ-loop
-returns c = c .stopped .ensures ∙ ap stoppedOf (c .before .enum-told .given .1)
-    ∙ sym (going-stop _ _ (c .before .before .before .before .if1 .taken) _ _ (c .before .before .before .before .before .before .loop .inv) (sym (c .before .before .before .step .ensures) ∙ c .before .enum-told .given .1))
+returns c =
+    λ image. sym (walking-stop _ _ (c .before .before .before .before .if1 .taken) _ (c .before .before .before .before .before .before .loop .inv) (λ im. sym (c .before .s .given .1) ∙ c .before .before .before .step .ensures im) image)
+
+enum-known-s-2 : tie.Need-enum-known-s-2 Inv-loop μ-loop
+enum-known-s-2 c = search needs
 
 loop-less : tie.Need-loop-less Inv-loop μ-loop
 loop-less c =
-    let g = going-on _ _ (c .before .before .before .before .if1 .taken) _ (c .before .before .before .before .before .before .loop .inv) (sym (c .before .before .before .step .ensures) ∙ c .before .s .given .1) in
+    let g = walking-on _ _ (c .before .before .before .before .if1 .taken) _ (c .before .before .before .before .before .before .loop .inv) (λ image. sym (c .before .s2 .given .1) ∙ c .before .before .before .step .ensures image) in
     omega (arith, g .0, c .before .before .before .before .if1 .taken)
 
 loop-again : tie.Need-loop-again Inv-loop μ-loop
-loop-again c = going-on _ _ (c .before .before .before .before .if1 .taken) _ (c .before .before .before .before .before .before .loop .inv) (sym (c .before .before .before .step .ensures) ∙ c .before .s .given .1) .1
+loop-again c =
+    walking-on _ _ (c .before .before .before .before .if1 .taken) _ (c .before .before .before .before .before .before .loop .inv) (λ image. sym (c .before .s2 .given .1) ∙ c .before .before .before .step .ensures image) .1
 
 returns-2 : tie.Need-returns-2 Inv-loop μ-loop
-returns-2 c = sym (going-end _ _ (c .before .before .loop .inv) (c .if1 .left))
+returns-2 c = λ image. sym (walking-end _ _ (c .before .before .loop .inv) (c .if1 .left) image)
 
 pub walk-spec : {M : Type 1} → statement M
 walk-spec =
     tie.close
-    (tie.spec Inv-loop μ-loop start-requires loop-holds step-requires (λ c. search needs) (λ c. search needs)
-    (λ c κs. search needs) returns loop-less loop-again returns-2)
+    (tie.spec Inv-loop μ-loop start-requires loop-holds step-requires enum-known-s returns enum-known-s-2 loop-less loop-again returns-2)

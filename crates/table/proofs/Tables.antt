@@ -1,0 +1,206 @@
+-- The rows and the tests on ids hold document 01's table: one test over all ids, computed once, and the facts read off it.
+use Prim.Native.Nat.{ℕ, zero, suc, _+_, _*_, _≤_, _<_}
+use native.Mathlib.Nat.{add-zero, zero-add, add-suc, suc-add, le-of-suc-le-suc, not-suc-le-zero}
+use native.Mathlib.Omega.{arith}
+use mathlib.Core.Path.{_≡_, refl, ap, ap₂, sym, _∙_, subst}
+use mathlib.Core.Bool.{Bool, true, false, cond, not, _&&_, _||_}
+use mathlib.Core.List.{List, [], _∷_}
+use mathlib.Core.Option.{Option, none, some}
+use lib.Dec.{eqb, leb, ltb}
+use borrow.Author.Tests.{eqb-true, ltb-true, leb-true, not-true}
+use lib.ListN.{length, getD}
+use Rattle.rules.specs.Table.{Kind, setting, plain, keeps, begins, Row, table, rowOf, isSetting, isBegin, isBase}
+use Rattle.rules.specs.Form.{equal}
+use Rattle.rules.proofs.Bools.{and-left, and-right}
+use Rattle.rules.proofs.Image.{equal-true}
+use Rattle.table.specs.declared.Group.{Group}
+use Rattle.table.specs.Ids.{ofRow, beginId, settingId, isGroup, groupId, settingKind}
+use Rattle.table.specs.Tables.{baseRow, timerRow, beginRow, clipRow, values, rowNumber, rowTable, orUnknown, rowAt, maskOf, masksOf, more, rowMasks}
+
+-- ---- a table of a rule's values, and a test at each of its numbers
+
+values-from : (n i : ℕ) (f : ℕ → ℕ) (k : ℕ) → k < n → getD (values n i f) k 0 ≡ f (i + k)
+values-from zero i f k h = absurd (not-suc-le-zero h)
+values-from (suc n) i f zero h = ap f (sym (add-zero i))
+values-from (suc n) i f (suc k) h = values-from n (suc i) f k (le-of-suc-le-suc h) ∙ ap f (suc-add i k ∙ sym (add-suc i k))
+
+abbrev pub every : ℕ → ℕ → (ℕ → Bool) → Bool
+every zero i f = true
+every (suc n) i f = f i && every n (suc i) f
+
+pub every-from : (n i : ℕ) (f : ℕ → Bool) → every n i f ≡ true → (k : ℕ) → k < n → f (i + k) ≡ true
+every-from zero i f t k h = absurd (not-suc-le-zero h)
+every-from (suc n) i f t zero h = ap f (add-zero i) ∙ and-left (f i) (every n (suc i) f) t
+every-from (suc n) i f t (suc k) h =
+    ap f (add-suc i k ∙ sym (suc-add i k)) ∙ every-from n (suc i) f (and-right (f i) (every n (suc i) f) t) k (le-of-suc-le-suc h)
+
+-- ---- the test
+
+abbrev same : Bool → Bool → Bool
+same true b = b
+same false b = not b
+
+-- an id with rules on its values
+abbrev pub ruled : ℕ → Bool
+ruled id = (eqb id 0x40 || eqb id 0x48) || (eqb id 0x84 || eqb id 0x88)
+
+-- the tests of the code: on the id alone, and on the id of a known command with its row
+abbrev pub beginTest : ℕ → Bool
+beginTest id = (eqb id 0x08 || eqb id 0x0C) || (eqb id 0x10 || eqb id 0x14)
+
+abbrev pub groupSettingTest : ℕ → Bool
+groupSettingTest id = ((eqb id 0x84 || eqb id 0x88) || (eqb id 0x8C || eqb id 0x90)) || eqb id 0xC4
+
+abbrev pub singleSettingTest : ℕ → Bool
+singleSettingTest id = (eqb id 0x02 || eqb id 0x26) || (eqb id 0x30 || eqb id 0x31)
+
+abbrev pub kindTest : ℕ → ℕ
+kindTest id = cond (leb 0x84 id) (cond (groupSettingTest id) 2 0) (cond (singleSettingTest id) 1 0)
+
+abbrev pub groupTest : ℕ → Bool
+groupTest id = cond (leb 0x40 id) ((eqb id 0x40 || eqb id 0x48) || eqb (settingKind id) 2) (beginId id)
+
+abbrev pub knownGroupTest : ℕ → Bool
+knownGroupTest id = leb 0x40 id || eqb (rowNumber id) beginRow
+
+-- the ids of work commands that keep their header
+abbrev pub keptId : ℕ → Bool
+keptId id = ltb 1 id && ltb id 0x40
+
+-- where a kind's header goes
+abbrev pub leavesAs : Kind → ℕ → Bool
+leavesAs setting id = true
+leavesAs plain id = not (keptId id)
+leavesAs keeps id = keptId id && not (beginId id)
+leavesAs begins id = keptId id && beginId id
+
+abbrev listOf : Group → List ℕ
+listOf g = g .header ∷ more g
+
+idFits : ℕ → Bool
+idFits id = same (beginId id) (beginTest id) && (eqb (settingKind id) (kindTest id) && same (groupId id) (groupTest id))
+
+-- of a known id: its row is below 16, with the row's masks and its size; four words where values have rules; its kind and
+-- what it leaves by its row
+rowFits : ℕ → Option Row → Bool
+rowFits id none = eqb (rowNumber id) 16
+rowFits id (some r) =
+    (eqb (r .id) id && ltb (rowNumber id) 16) && (equal (listOf (rowMasks (rowNumber id))) (listOf (masksOf r)) && (eqb (length (r .more)) (cond (groupId id) 3 0)
+    && ((not (ruled id) || groupId id) && (same (groupId id) (knownGroupTest id) && (same (isSetting (r .kind)) (leb (cond (groupId id) clipRow timerRow) (rowNumber id))
+    && (leavesAs (r .kind) id && (same (isBegin (r .kind)) (eqb (rowNumber id) beginRow) && same (isBase id) (eqb (rowNumber id) baseRow))))))))
+
+fitsAt : ℕ → Bool
+fitsAt id = idFits id && rowFits id (rowOf id)
+
+all-fit : every 256 0 fitsAt ≡ true
+unfolding fitsAt idFits rowFits rowNumber rowOf table rowMasks rowAt isBase beginId settingKind settingId groupId
+all-fit = refl
+
+-- ---- what it says
+
+pub record Known (id : ℕ) : Type 0 where
+  pub small : rowNumber id < 16
+  pub found : rowOf id ≡ some (rowAt id)
+  pub own-id : rowAt id .id ≡ id
+  pub masks : listOf (rowMasks (rowNumber id)) ≡ listOf (masksOf (rowAt id))
+  pub length-more : length (rowAt id .more) ≡ cond (groupId id) 3 0
+  pub one-word : groupId id ≡ false → ruled id ≡ false
+  pub group : groupId id ≡ knownGroupTest id
+  pub setting-row : isSetting (rowAt id .kind) ≡ leb (cond (groupId id) clipRow timerRow) (rowNumber id)
+  pub leaves : leavesAs (rowAt id .kind) id ≡ true
+  pub begins : isBegin (rowAt id .kind) ≡ eqb (rowNumber id) beginRow
+  pub base : isBase id ≡ eqb (rowNumber id) baseRow
+
+same-true : (a b : Bool) → same a b ≡ true → a ≡ b
+same-true true b e = sym e
+same-true false b e = sym (not-true b e)
+
+unruled : (a b : Bool) → (not a || b) ≡ true → b ≡ false → a ≡ false
+unruled true b t e = sym t ∙ e
+unruled false b t e = refl
+
+module _ (id : ℕ) where
+  row-known : (r : Row) → rowOf id ≡ some r → rowFits id (some r) ≡ true → Known id
+  unfolding rowFits rowAt
+  row-known r e t₀ =
+      let n : ℕ = rowNumber id in
+      let is : orUnknown (rowOf id) ≡ r = ap orUnknown e in
+      let p : (eqb (r .id) id && ltb n 16) ≡ true = and-left _ _ t₀ in
+      let t₁ = and-right (eqb (r .id) id && ltb n 16) _ t₀ in
+      let t₂ = and-right (equal (listOf (rowMasks n)) (listOf (masksOf r))) _ t₁ in
+      let t₃ = and-right (eqb (length (r .more)) (cond (groupId id) 3 0)) _ t₂ in
+      let t₄ = and-right (not (ruled id) || groupId id) _ t₃ in
+      let t₅ = and-right (same (groupId id) (knownGroupTest id)) _ t₄ in
+      let t₆ = and-right (same (isSetting (r .kind)) (leb (cond (groupId id) clipRow timerRow) n)) _ t₅ in
+      let t₇ = and-right (leavesAs (r .kind) id) _ t₆ in
+      record {
+        small = ltb-true n 16 (and-right (eqb (r .id) id) _ p);
+        found = e ∙ ap some (sym is);
+        own-id = ap (λ (x : Row). x .id) is ∙ eqb-true (r .id) id (and-left (eqb (r .id) id) (ltb n 16) p);
+        masks = equal-true (listOf (rowMasks n)) (listOf (masksOf r)) (and-left (equal (listOf (rowMasks n)) (listOf (masksOf r))) _ t₁) ∙ ap (λ (x : Row). listOf (masksOf x)) (sym is);
+        length-more = ap (λ (x : Row). length (x .more)) is ∙ eqb-true _ _ (and-left (eqb (length (r .more)) (cond (groupId id) 3 0)) _ t₂);
+        one-word = unruled (ruled id) (groupId id) (and-left (not (ruled id) || groupId id) _ t₃);
+        group = same-true (groupId id) (knownGroupTest id) (and-left (same (groupId id) (knownGroupTest id)) _ t₄);
+        setting-row = ap (λ (x : Row). isSetting (x .kind)) is ∙ same-true (isSetting (r .kind)) (leb (cond (groupId id) clipRow timerRow) n) (and-left (same (isSetting (r .kind)) (leb (cond (groupId id) clipRow timerRow) n)) _ t₅);
+        leaves = ap (λ (x : Row). leavesAs (x .kind) id) is ∙ and-left (leavesAs (r .kind) id) _ t₆;
+        begins = ap (λ (x : Row). isBegin (x .kind)) is ∙ same-true (isBegin (r .kind)) (eqb n beginRow) (and-left (same (isBegin (r .kind)) (eqb n beginRow)) _ t₇);
+        base = same-true (isBase id) (eqb n baseRow) (and-right (same (isBegin (r .kind)) (eqb n beginRow)) _ t₇);
+      }
+
+  by-row : (o : Option Row) → rowOf id ≡ o → rowFits id o ≡ true → rowNumber id < 16 → Known id
+  unfolding rowFits
+  by-row none e t h = let z = eqb-true (rowNumber id) 16 t in absurd (omega arith)
+  by-row (some r) e t h = row-known r e t
+
+  past-rows : (o : Option Row) → rowOf id ≡ o → rowFits id o ≡ true → 16 ≤ rowNumber id → rowOf id ≡ none
+  past-rows none e t h = e
+  past-rows (some r) e t h = let k = row-known r e t in absurd (omega (arith, k .small))
+
+  module _ (h : id < 256) where
+    test : (idFits id && rowFits id (rowOf id)) ≡ true
+    unfolding fitsAt
+    test = ap fitsAt (sym (zero-add id)) ∙ every-from 256 0 fitsAt all-fit id h
+
+    tests : idFits id ≡ true
+    tests = and-left (idFits id) (rowFits id (rowOf id)) test
+
+    pub known : rowNumber id < 16 → Known id
+    known k = by-row (rowOf id) refl (and-right (idFits id) (rowFits id (rowOf id)) test) k
+
+    pub known-row : (r : Row) → rowOf id ≡ some r → Known id
+    known-row r e = row-known r e (ap (rowFits id) (sym e) ∙ and-right (idFits id) (rowFits id (rowOf id)) test)
+
+    -- one that has none
+    pub unknown-row : 16 ≤ rowNumber id → rowOf id ≡ none
+    unknown-row k = past-rows (rowOf id) refl (and-right (idFits id) (rowFits id (rowOf id)) test) k
+
+    pub row-at : (l : List ℕ) → l ≡ rowTable → getD l id 0 ≡ rowNumber id
+    unfolding rowTable
+    row-at l e = ap (λ (m : List ℕ). getD m id 0) e ∙ values-from 256 0 rowNumber id h ∙ ap rowNumber (zero-add id)
+
+    -- every id, known or not
+    pub begin-is : beginTest id ≡ beginId id
+    unfolding idFits
+    begin-is = sym (same-true (beginId id) (beginTest id) (and-left (same (beginId id) (beginTest id)) _ tests))
+
+    pub kind-is : kindTest id ≡ settingKind id
+    unfolding idFits
+    kind-is = sym (eqb-true _ _ (and-left (eqb (settingKind id) (kindTest id)) _ (and-right (same (beginId id) (beginTest id)) _ tests)))
+
+    pub group-is : groupTest id ≡ groupId id
+    unfolding idFits
+    group-is = sym (same-true (groupId id) (groupTest id) (and-right (eqb (settingKind id) (kindTest id)) _ (and-right (same (beginId id) (beginTest id)) _ tests)))
+
+pub row-is : (id : ℕ) (r : Row) → rowOf id ≡ some r → rowAt id ≡ r
+unfolding rowAt
+row-is id r e = ap orUnknown e
+
+-- the kinds of the set
+kind-of : (s g : Bool) → not (eqb (cond s (cond g 2 1) 0) 0) ≡ s
+kind-of true true = refl
+kind-of true false = refl
+kind-of false g = refl
+
+pub setting-is : (id : ℕ) → not (eqb (settingKind id) 0) ≡ settingId id
+unfolding settingKind
+setting-is id = kind-of (settingId id) (groupId id)
