@@ -66,12 +66,6 @@ fn put_hex(text: &mut [u8], at: usize, digits: usize, n: usize) -> usize
 
 // ---- lines
 
-fn wide(word: u32) -> usize
-    ensures { λ r. ⌜ r ≡ word ⌝ }
-{
-    word as usize
-}
-
 fn put_line(
     text: &mut [u8],
     at: usize,
@@ -101,10 +95,10 @@ fn put_record(text: &mut [u8], at: usize, records: &[u32], i: usize) -> usize
     put_line(
         text,
         at,
-        wide(records[i]),
-        wide(records[i + 1]),
-        wide(records[i + 2]),
-        wide(records[i + 3]),
+        words::wide(records[i]),
+        words::wide(records[i + 1]),
+        words::wide(records[i + 2]),
+        words::wide(records[i + 3]),
     )
 }
 
@@ -151,7 +145,7 @@ fn put_answer(text: &mut [u8], a: Answer, records: &[u32]) -> usize
     ensures { λ r. ⌜ Puts (listed a (now (records .entry))) (now (text .entry)) 0 (now (text .exit)) r ⌝ }
 {
     if a.verdict != 0 {
-        return put_refusal(text, wide(a.verdict), a.position);
+        return put_refusal(text, words::wide(a.verdict), a.position);
     }
     let at = put_all(text, 0, b"at id words head\n");
     let at = put_lines(text, at, records);

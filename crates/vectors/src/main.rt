@@ -30,10 +30,6 @@ fn least(a: usize, b: usize) -> usize
     if a < b { a } else { b }
 }
 
-fn wide(x: u32) -> usize {
-    x as usize
-}
-
 // ---- digests
 
 fn mix(digest: u32, word: u32) -> u32 {
@@ -137,8 +133,8 @@ fn add(tally: &mut [u32; 26], i: usize) {
 }
 
 fn note(tally: &mut [u32; 26], r: Ran, digest: u32) {
-    add(tally, least(wide(r.reader), 11));
-    add(tally, NORMALISER + least(wide(r.normaliser), 11));
+    add(tally, least(words::wide(r.reader), 11));
+    add(tally, NORMALISER + least(words::wide(r.normaliser), 11));
     add(tally, CASES);
     if r.digest != digest {
         add(tally, DIFFERENCES);
@@ -158,11 +154,11 @@ fn one(
     ensures { λ r. ⌜ (at < r) × (r ≤ length (now (words .entry))) ⌝ }
 {
     let start = at + 6;
-    let size = least(wide(words[at]), words.len() - start);
+    let size = least(words::wide(words[at]), words.len() - start);
     let end = start + size;
-    let i = least(wide(words[at + 2]), image.len());
-    let k = least(wide(words[at + 3]), records.len());
-    let n = least(wide(words[at + 4]), out.len());
+    let i = least(words::wide(words[at + 2]), image.len());
+    let k = least(words::wide(words[at + 3]), records.len());
+    let n = least(words::wide(words[at + 4]), out.len());
     let r = run_case(
         &words[start..end],
         words[at + 1],

@@ -26,6 +26,13 @@ pub fn header_of(word: u32) -> u32
     word % 0x1000000
 }
 
+// A word as a size.
+pub fn wide(word: u32) -> usize
+    ensures { λ r. ⌜ r ≡ word ⌝ }
+{
+    word as usize
+}
+
 // A word past the end is not written.
 pub fn put(out: &mut [u32], n: usize, w: u32)
     ensures { λ _. ⌜ now (out .exit) ≡ set (now (out .entry)) n w ⌝ }
