@@ -1,14 +1,14 @@
 -- The mask test: a word and the complement of a mask have no bit in common exactly where no bit lies outside the mask.
 use mathlib.Core.Bool.{Bool, true, false, cond}
 use mathlib.Core.Path.{_≡_, _∙_, ap, sym, refl}
-use Prim.Native.Nat.{ℕ, zero, suc, _+_, _-_, _*_, _/_, _%_, _^_, _≤_, _<_, min}
+use Prim.Native.Nat.{ℕ, zero, suc, _+_, _-_, _*_, _/_, _%_, _^_, _<_, min}
 use native.Mathlib.Nat.{pow-suc}
 use native.Mathlib.Omega.{arith}
 use lib.Bits.{bitAnd, and-step}
-use lib.Dec.{leb, ltb, eqb}
+use lib.Dec.{leb}
 use lib.Count.{trailingZeros, under}
-use borrow.Author.Tests.{le-leb, lt-leb, leb-true, leb-false}
-use Rattle.rules.specs.Word.{lowest, undefined}
+use borrow.Author.Tests.{le-leb, leb-true, leb-false}
+use Rattle.rules.specs.Word.{lowest}
 
 half : (p m : ℕ) → m < p * 2 → (p * 2 - 1 - m) / 2 ≡ p - 1 - m / 2
 half p m h = omega arith

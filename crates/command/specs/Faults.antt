@@ -8,6 +8,7 @@ use Rattle.rules.specs.declared.Refusal.{Refusal}
 use Rattle.rules.specs.Table.{Row}
 use Rattle.rules.specs.Values.{refusal, Fault}
 use Rattle.table.specs.declared.Group.{Group}
+use Rattle.table.specs.Tables.{more}
 use Rattle.command.specs.declared.Faults.{Faults}
 
 abbrev pub none : Refusal
@@ -31,4 +32,4 @@ firstOf f = four 7 (f .first) (f .second) (f .third) (f .fourth) (cond (f .clash
 
 -- the words after the first that a row's command has of a group
 abbrev pub own : Row → Group → List ℕ
-own r g = take (length (r .more)) (g .second ∷ g .third ∷ g .fourth ∷ [])
+own r g = take (length (r .more)) (more g)

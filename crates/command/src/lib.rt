@@ -3,15 +3,14 @@ use rules::Refusal;
 use table::Group;
 ghost use mathlib.Core.Path.{_≡_};
 ghost use mathlib.Core.Bool.{cond, true, false};
-ghost use mathlib.Core.List.{[], _∷_};
 ghost use Prim.Native.Nat.{_+_, _<_, _≤_};
-ghost use lib.ListN.{length, getD};
+ghost use lib.ListN.{length};
 ghost use Rattle.rules.specs.Word.{undefined};
 ghost use Rattle.rules.specs.Command.{payload};
 ghost use Rattle.rules.specs.Values.{refusal, loadFaults, primitiveFaults, clipFaults, rasterFaults, valueFaults, pageLimit, faults};
 ghost use Rattle.rules.specs.Decode.{unknown};
 ghost use Rattle.table.specs.Ids.{groupId};
-ghost use Rattle.table.specs.Tables.{rowNumber, rowTable, rowAt};
+ghost use Rattle.table.specs.Tables.{rowNumber, rowTable, rowAt, more};
 ghost use Rattle.command.specs.Faults.{firstRefusal, found, none, four, firstOf, own};
 ghost use Rattle.command.specs.View.{groupAt, sizeAt, OwnAt, decodedAt, refusedAt, KnownAt};
 
@@ -55,7 +54,7 @@ pub fn group_at(list: &[u32], at: usize) -> Group
 
 // The words behind a command's own, as these say.
 fn payload(id: u8, g: Group) -> usize
-    ensures { λ r. ⌜ r ≡ payload id (g .header) (g .second ∷ g .third ∷ g .fourth ∷ []) ⌝ }
+    ensures { λ r. ⌜ r ≡ payload id (g .header) (more g) ⌝ }
 {
     if id == 0x40 {
         return 4 * ((g.header % 512) as usize);
@@ -161,7 +160,7 @@ fn any(f: Faults) -> bool
 
 // A value is illegal or clashes; which one is asked only on refusal.
 fn bad_values(id: u8, g: Group) -> bool
-    ensures { λ r. ⌜ r ≡ found (firstRefusal (valueFaults id (g .header) (g .second ∷ g .third ∷ g .fourth ∷ []))) ⌝ }
+    ensures { λ r. ⌜ r ≡ found (firstRefusal (valueFaults id (g .header) (more g))) ⌝ }
 {
     match id {
         0x40 => any(load_faults(g)),
@@ -217,7 +216,7 @@ fn first(f: Faults) -> Refusal
 
 // Refusals 7 and 8.
 fn value_fault(id: u8, g: Group) -> Refusal
-    ensures { λ r. ⌜ r ≡ firstRefusal (valueFaults id (g .header) (g .second ∷ g .third ∷ g .fourth ∷ [])) ⌝ }
+    ensures { λ r. ⌜ r ≡ firstRefusal (valueFaults id (g .header) (more g)) ⌝ }
 {
     match id {
         0x40 => first(load_faults(g)),

@@ -1,5 +1,5 @@
 -- The second pass of the reader: the image and the records after each command.
-use Prim.Native.Nat.{ℕ, suc, _+_, _*_, _≤_, _<_}
+use Prim.Native.Nat.{ℕ, suc, _+_, _≤_, _<_}
 use native.Mathlib.Omega.{arith}
 use mathlib.Core.Path.{_≡_, refl, ap, ap₂, sym, _∙_}
 use mathlib.Core.List.{List, [], _∷_, _++_, append-nil}
@@ -16,7 +16,7 @@ use Rattle.rules.proofs.Differing.{length-final, final-append}
 use Rattle.rules.proofs.Records.{records-append, recordWords-append}
 use Rattle.table.proofs.Tables.{known-row}
 use Rattle.list.specs.declared.Place.{Place}
-use Rattle.list.specs.Effects.{idAt, commandAt, CommandAt, recordAt, Applies, Applied}
+use Rattle.list.specs.Effects.{idAt, CommandAt, recordAt, Applies, Applied}
 use Rattle.list.proofs.Position.{Position, position-start, position-end, AtCommand, after, at-command}
 
 -- the words of the records of some commands

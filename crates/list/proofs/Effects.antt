@@ -1,23 +1,20 @@
 -- The command at a position of an accepted list, by the kinds of the settings' set.
-use Prim.Native.Nat.{ℕ, suc, _+_, _≤_, _<_}
+use Prim.Native.Nat.{ℕ, suc, _+_, _≤_}
 use native.Mathlib.Nat.{add-zero}
 use native.Mathlib.Omega.{arith}
 use mathlib.Core.Path.{_≡_, refl, ap, ap₂, sym, _∙_}
-use mathlib.Core.Bool.{Bool, true, false, cond, not, _&&_}
+use mathlib.Core.Bool.{Bool, true, false, cond}
 use mathlib.Core.List.{List, [], _∷_}
-use mathlib.Core.Option.{some}
-use lib.Dec.{eqb}
 use borrow.Author.Tests.{not-true}
-use lib.ListN.{length, getD, set, take, drop, length-drop}
+use lib.ListN.{length, set, take, drop, length-drop}
 use lib.Seq.{sets, length-take-le}
-use Rattle.rules.specs.Table.{Kind, setting, plain, keeps, begins, Row, rowOf, isSetting}
-use Rattle.rules.specs.Command.{Command, payload}
+use Rattle.rules.specs.Table.{Kind, setting, plain, keeps, begins, rowOf, isSetting}
+use Rattle.rules.specs.Command.{payload}
 use Rattle.rules.specs.Image.{leave, apply}
-use Rattle.rules.specs.Records.{records, recordWords}
 use Rattle.rules.proofs.Bools.{and-left, and-right}
 use Rattle.rules.proofs.Rows.{Setting, setting-fits, setting-payload}
 use Rattle.rules.proofs.Form.{is-setting}
-use Rattle.table.specs.Ids.{beginId, settingId, groupId, settingKind}
+use Rattle.table.specs.Ids.{ofRow, beginId, settingId, groupId, settingKind}
 use Rattle.table.specs.Tables.{more, rowAt}
 use Rattle.command.specs.View.{groupAt, sizeAt, OwnAt}
 use Rattle.table.proofs.Tables.{Known, known, keptId, leavesAs}
@@ -70,14 +67,12 @@ module _ (l : List ℕ) (at : ℕ) (h : CommandAt l at) where
   pub own-at : OwnAt l at
   own-at = record { inside = h .start; group = λ g. group-inside g (size-known l at id refl (h .small) k) }
 
-  setting-row : settingId id ≡ true → Setting (rowAt id)
+  kind-of-row : isSetting (rowAt id .kind) ≡ settingId id
   unfolding settingId
-  setting-row e =
-      record { found = ap rowOf (k .own-id) ∙ k .found; kind = is-setting (rowAt id .kind) (ap (Rattle.table.specs.Ids.ofRow (λ r. isSetting (r .kind))) (sym (k .found)) ∙ e) }
+  kind-of-row = ap (ofRow (λ r. isSetting (r .kind))) (sym (k .found))
 
-  work-row : settingId id ≡ false → isSetting (rowAt id .kind) ≡ false
-  unfolding settingId
-  work-row e = ap (Rattle.table.specs.Ids.ofRow (λ r. isSetting (r .kind))) (sym (k .found)) ∙ e
+  setting-row : settingId id ≡ true → Setting (rowAt id)
+  setting-row e = record { found = ap rowOf (k .own-id) ∙ k .found; kind = is-setting (rowAt id .kind) (kind-of-row ∙ e) }
 
   -- a setting's command, with its words after the first
   setting-is : (s : Setting (rowAt id)) (image us : List ℕ) → length (rowAt id .more) ≡ length us → take (length us) (drop (suc at) l) ≡ us
@@ -144,7 +139,7 @@ module _ (l : List ℕ) (at : ℕ) (h : CommandAt l at) where
   pub is-work : settingKind (idAt l at) ≡ 0 → IsWork
   unfolding settingKind commandAt
   is-work e =
-      let w = work-row (kind-none (settingId id) (groupId id) e) in
+      let w = kind-of-row ∙ kind-none (settingId id) (groupId id) e in
       let s = size-known l at id refl (h .small) k in
       let n = length-take-le (length (rowAt id .more) + payload (rowAt id .id) (headerAt l at) (take (length (rowAt id .more)) (drop (suc at) l))) (drop (suc at) l)
       (omega (arith, h .inside, length-drop (suc at) l)) in

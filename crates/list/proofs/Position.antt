@@ -1,14 +1,13 @@
 -- Positions in an accepted list: at the first word of a command, and behind the command's words.
-use Prim.Native.Nat.{ℕ, suc, _+_, _*_, _^_, _≤_, _<_}
+use Prim.Native.Nat.{ℕ, suc, _+_, _≤_, _<_}
 use native.Mathlib.Omega.{arith}
-use mathlib.Core.Path.{_≡_, refl, ap, ap₂, sym, _∙_}
+use mathlib.Core.Path.{_≡_, refl, ap, sym, _∙_}
 use mathlib.Core.List.{List, [], _∷_, _++_, append-assoc}
 use lib.Pow.{high, low}
-use lib.ListN.{length, getD, take, drop, length-append, length-drop}
-use lib.Seq.{drop-cons, drop-drop, drop-at, take-at}
+use lib.ListN.{length, getD, drop, length-append, length-drop}
+use lib.Seq.{drop-cons, drop-drop, drop-at}
 use Rattle.rules.specs.Word.{idOf, headerOf, firstWord}
-use Rattle.rules.specs.Table.{Row}
-use Rattle.rules.specs.Command.{Command, words, wordsAll, commandSize}
+use Rattle.rules.specs.Command.{Command, wordsAll, commandSize}
 use Rattle.rules.specs.Walk.{accepted, parse}
 use Rattle.rules.specs.Valid.{Valid, AllValid}
 use Rattle.rules.proofs.Valid.{valid-size, valid-taken}
@@ -40,7 +39,6 @@ pub record AtCommand (all : List Command) (l : List ℕ) (at : ℕ) (s : Positio
   pub rest-is : s .rest ≡ command ∷ later
   pub valid : Valid command
   pub id-is : idOf (getD l at 0) ≡ command .row .id
-  pub header-is : headerOf (getD l at 0) ≡ command .header
   pub row-at : rowAt (idOf (getD l at 0)) ≡ command .row
   pub size-is : sizeAt l at ≡ suc (length (command .rest))
   pub command-is : commandAt l at ≡ command
@@ -92,7 +90,6 @@ module _ (all : List Command) (l : List ℕ) (at : ℕ) (s : Position all l at) 
           rest-is = e;
           valid = v;
           id-is = id′;
-          header-is = header′;
           row-at = row′;
           size-is = rw (id′, v .found, header′, tail′) (ap suc (valid-size c (wordsAll cs) v));
           command-is = rw (row′, header′, tail′) (valid-taken c (wordsAll cs) v);

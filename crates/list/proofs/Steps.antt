@@ -1,8 +1,8 @@
 -- One step of the walk, and the walk from a cursor on.
-use Prim.Native.Nat.{ℕ, suc, _+_, _*_, _^_, _≤_, _<_}
+use Prim.Native.Nat.{ℕ, suc, _+_, _^_, _≤_, _<_}
 use native.Mathlib.Nat.{add-zero, zero-add}
 use native.Mathlib.Omega.{arith}
-use mathlib.Core.Path.{_≡_, refl, ap, ap₂, sym, _∙_, subst}
+use mathlib.Core.Path.{_≡_, refl, ap, ap₂, sym, _∙_}
 use mathlib.Core.Bool.{Bool, true, false, cond, not, _&&_}
 use mathlib.Core.List.{List, [], _∷_}
 use mathlib.Core.Option.{some, none}
@@ -19,7 +19,7 @@ use Rattle.rules.proofs.Parse.{Read, decode-read, step-took}
 use Rattle.rules.proofs.Walk.{walk-at, walk-end}
 use Rattle.command.specs.declared.Command.{Command as Command′}
 use Rattle.command.specs.declared.Decoded.the-variants as decoded
-use Rattle.table.specs.Tables.{beginRow, rowNumber, rowAt}
+use Rattle.table.specs.Tables.{beginRow, rowNumber}
 use Rattle.command.specs.View.{decodedAt}
 use Rattle.command.specs.View.{view as viewDecoded}
 use Rattle.table.proofs.Tables.{Known, known-row, row-is}

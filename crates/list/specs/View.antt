@@ -5,7 +5,7 @@ use mathlib.Core.List.{List}
 use lib.Dec.{eqb}
 use lib.ListN.{length, getD, drop}
 use Rattle.rules.specs.Table.{isSetting}
-use Rattle.rules.specs.Walk.{Order, State, stop, took, step, Parsed, refused, accepted}
+use Rattle.rules.specs.Walk.{State, stop, took, step, Parsed, refused, accepted}
 use Rattle.rules.specs.Walk.{Step as RulesStep}
 use Rattle.rules.specs.Values.{refusal}
 use Rattle.rules.specs.Records.{records}

@@ -13,7 +13,7 @@ ghost use lib.Seq.{sets};
 ghost use Rattle.rules.specs.Walk.{walk, start, parse, accepted};
 ghost use Rattle.rules.specs.Image.{apply, final};
 ghost use Rattle.rules.specs.Records.{records, recordWords};
-ghost use Rattle.rules.specs.Answer.{Outcome, refusedAnswer, reading, commandsOf};
+ghost use Rattle.rules.specs.Answer.{refusedAnswer, reading, commandsOf};
 ghost use Rattle.table.specs.Ids.{settingKind};
 ghost use Rattle.table.specs.Tables.{rowTable};
 ghost use Rattle.command.specs.View.{sizeAt};

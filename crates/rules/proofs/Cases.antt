@@ -1,6 +1,6 @@
 -- Each of document 01's cases P1 to P12 and N1 to N4 holds.
 use mathlib.Core.Path.{_≡_, refl}
-use mathlib.Core.Bool.{Bool, true}
+use mathlib.Core.Bool.{true}
 use Rattle.rules.specs.Word.{undefined}
 use Rattle.rules.specs.Table.{table, rowOf, settings, isBase}
 use Rattle.rules.specs.Command.{payload}

@@ -1,21 +1,19 @@
 -- The settings that differ, put out, make the form's image the list's.
-use Prim.Native.Nat.{ℕ, zero, suc, _+_, _*_, _/_, _%_, _^_, _≤_, _<_}
+use Prim.Native.Nat.{ℕ, suc, _+_, _≤_, _<_}
 use native.Mathlib.Omega.{arith}
 use mathlib.Core.Path.{_≡_, refl, ap, ap₂, sym, _∙_, subst}
-use mathlib.Core.Bool.{Bool, true, false, cond, not, _&&_, _||_}
-use mathlib.Core.Logic.{_⊎_, inl, inr, _≢_}
+use mathlib.Core.Bool.{Bool, true, false, cond}
+use mathlib.Core.Logic.{_⊎_, inl, inr}
 use mathlib.Core.List.{List, [], _∷_, _++_}
-use mathlib.Core.Option.{Option, none, some}
 use native.Mathlib.Decide.{decLe, decLt}
-use lib.Dec.{T, eqb, leb, ltb}
-use lib.ListN.{length, getD, set, take, drop, length-append, length-set}
+use lib.ListN.{length, getD, set, length-set}
 use lib.Seq.{sets, length-sets, ext-getD, getD-set-other}
-use Rattle.rules.specs.Table.{Kind, setting, plain, keeps, begins, Row, rowOf, isSetting, size, settings}
-use Rattle.rules.specs.Command.{Command, words, wordsAll}
+use Rattle.rules.specs.Table.{Kind, setting, plain, keeps, begins, Row, isSetting, size, settings}
+use Rattle.rules.specs.Command.{Command}
 use Rattle.rules.specs.Image.{leave, apply, final}
-use Rattle.rules.specs.Form.{read, equal, same, emit, differing}
+use Rattle.rules.specs.Form.{read, same, emit, differing}
 use Rattle.rules.proofs.Image.{sets-below, sets-above, sets-read, read-cong, read-at, read-sets, length-read, equal-true, equal-refl}
-use Rattle.rules.proofs.Rows.{Setting, setting-fits, settings-apart, inside, insideAny, inside-from, inside-to, inside-of, setting-inside, AllSettings, settings-all, keeps-outside, begins-outside}
+use Rattle.rules.proofs.Rows.{Setting, setting-fits, settings-apart, inside, insideAny, inside-from, inside-to, setting-inside, AllSettings, settings-all, keeps-outside, begins-outside}
 use Rattle.rules.proofs.Bools.{or-false}
 use Rattle.rules.specs.Valid.{Valid}
 use Rattle.rules.proofs.Valid.{setting-length}

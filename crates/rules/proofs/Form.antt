@@ -1,9 +1,9 @@
 -- The laws of the normal form: it does what its list does, is fixed by that, is accepted, and is no longer.
-use Prim.Native.Nat.{ℕ, zero, suc, _+_, _*_, _/_, _%_, _^_, _≤_, _<_}
+use Prim.Native.Nat.{ℕ, suc, _+_, _≤_}
 use native.Mathlib.Omega.{arith}
 use mathlib.Core.Path.{_≡_, refl, ap, ap₂, sym, _∙_, subst}
 use mathlib.Core.Bool.{Bool, true, false, cond, not, _&&_}
-use mathlib.Core.Logic.{_⊎_, inl, inr, _↔_}
+use mathlib.Core.Logic.{_⊎_, inl, inr}
 use mathlib.Core.List.{List, [], _∷_, _++_, append-assoc, append-nil}
 use mathlib.Core.Option.{Option, none, some}
 use lib.Dec.{eqb}
@@ -11,10 +11,10 @@ use lib.Pow.{high, low}
 use borrow.Author.Tests.{eq-eqb}
 use lib.ListN.{length, length-append}
 use Rattle.rules.specs.Word.{idOf, headerOf}
-use Rattle.rules.specs.Table.{Kind, setting, plain, keeps, begins, Row, rowOf, isSetting, isBegin, isBase, size, settings}
+use Rattle.rules.specs.Table.{Kind, setting, plain, keeps, begins, Row, rowOf, isSetting, isBegin, size, settings}
 use Rattle.rules.specs.Command.{Command, words, wordsAll}
 use Rattle.rules.specs.Image.{leave, apply, final}
-use Rattle.rules.specs.Walk.{Order, State, outOfOrder, orderAfter, accepted, parse}
+use Rattle.rules.specs.Walk.{Order, outOfOrder, orderAfter, accepted, parse}
 use Rattle.rules.specs.Effect.{Work, works, Effect, effect}
 use Rattle.rules.specs.Form.{read, equal, same, emit, differing, formFrom, form}
 use Rattle.rules.proofs.Image.{equal-refl, length-read}
@@ -348,11 +348,6 @@ same-effect im ws us cs ds p q e =
     sym (form-accepted im ws cs p) ∙ ap (parse im) e ∙ form-accepted im us ds q in
     let y : form im cs ≡ form im ds = cc in
     sym (form-same im ws cs p) ∙ ap (effect im) y ∙ form-same im us ds q
-
--- two lists have one normal form exactly where they do the same
-pub normal-iff : (im ws us : List ℕ) (cs ds : List Command) → parse im ws ≡ accepted cs → parse im us ≡ accepted ds
-    → (wordsAll (form im cs) ≡ wordsAll (form im ds)) ↔ (effect im cs ≡ effect im ds)
-normal-iff im ws us cs ds p q = (same-effect im ws us cs ds p q, same-form im ws us cs ds p q)
 
 -- the normal form is accepted, does what its list does, and is its own normal form
 pub normal-again : (im ws : List ℕ) (cs : List Command) → parse im ws ≡ accepted cs

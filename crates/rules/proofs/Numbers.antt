@@ -1,7 +1,7 @@
 -- No refusal has number 0, and none stands far behind its list.
 use Prim.Native.Nat.{ℕ, zero, suc, _+_, _≤_}
 use native.Mathlib.Omega.{arith}
-use mathlib.Core.Path.{_≡_, refl, ap, sym, _∙_}
+use mathlib.Core.Path.{_≡_, refl}
 use mathlib.Core.Bool.{Bool, true, false, cond, not, _&&_, _||_}
 use mathlib.Core.List.{List, [], _∷_, _++_}
 use mathlib.Core.Option.{Option, none, some}
@@ -13,7 +13,7 @@ use Rattle.rules.specs.Word.{idOf, headerOf}
 use Rattle.rules.specs.Table.{Row, rowOf, isBegin}
 use Rattle.rules.specs.Command.{Command, moreMasks, ownSize, restSize}
 use Rattle.rules.specs.Values.{refusal, Fault, undefinedFaults, valueFaults, loadFaults, primitiveFaults, clipFaults, rasterFaults, faults}
-use Rattle.rules.specs.Decode.{Decoded, bad, good, firstFault, unknown, decodeKnown, decodeRow, decode}
+use Rattle.rules.specs.Decode.{Decoded, bad, good, firstFault, decodeKnown, decodeRow, decode}
 use Rattle.rules.specs.Walk.{State, start, outOfOrder, next, Step, stop, took, inOrder, stepDecoded, step, Parsed, refused, accepted, andThen, onward, walk, sized, parse}
 use Rattle.rules.proofs.Bools.{and-left, and-right}
 

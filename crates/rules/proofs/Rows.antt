@@ -1,15 +1,14 @@
 -- Facts of the table of commands, each one test over the whole table.
-use Prim.Native.Nat.{ℕ, zero, suc, _+_, _*_, _≤_, _<_}
+use Prim.Native.Nat.{ℕ, _+_, _≤_, _<_}
 use native.Mathlib.Omega.{arith}
-use mathlib.Core.Path.{_≡_, refl, ap, ap₂, sym, _∙_, subst}
+use mathlib.Core.Path.{_≡_, refl, ap, sym, _∙_}
 use mathlib.Core.Bool.{Bool, true, false, cond, not, _&&_, _||_}
-use mathlib.Core.Logic.{_⊎_, inl, inr, _≢_}
-use mathlib.Core.List.{List, [], _∷_, _++_}
-use mathlib.Core.Option.{Option, none, some}
-use lib.Dec.{T, eqb, leb, ltb, leb→le, eqb→eq}
-use borrow.Author.Tests.{eqb-true, eqb-false, eq-eqb, leb-true, ltb-true, le-leb, lt-ltb, not-true}
-use lib.ListN.{length}
-use Rattle.rules.specs.Table.{Kind, setting, plain, keeps, begins, Row, table, find, rowOf, isSetting, isBase, isBegin, size, onlySettings, settings}
+use mathlib.Core.Logic.{_⊎_, inl, inr}
+use mathlib.Core.List.{List, [], _∷_}
+use mathlib.Core.Option.{Option, some}
+use lib.Dec.{eqb, leb, ltb}
+use borrow.Author.Tests.{eqb-true, leb-true, ltb-true, le-leb, lt-ltb, not-true}
+use Rattle.rules.specs.Table.{Kind, setting, plain, keeps, begins, Row, table, find, rowOf, isSetting, isBase, size, onlySettings, settings}
 use Rattle.rules.specs.Command.{payload}
 use Rattle.rules.proofs.Bools.{and-left, and-right, and-true, or-cases, or-left, or-right, implied}
 

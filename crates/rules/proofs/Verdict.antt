@@ -1,12 +1,12 @@
 -- What verdict 0 says of the reader's and the normaliser's answers.
-use Prim.Native.Nat.{ℕ, zero, _*_, _≤_}
+use Prim.Native.Nat.{ℕ, _*_, _≤_}
 use native.Mathlib.Omega.{arith}
 use mathlib.Core.Path.{_≡_, refl, ap, _∙_}
 use mathlib.Core.Bool.{Bool, true, false}
 use mathlib.Core.List.{List, [], _∷_}
-use lib.Dec.{eqb, ltb}
+use lib.Dec.{ltb}
 use borrow.Author.Tests.{eqb-false, ltb-false, le-ltb}
-use lib.ListN.{length, take, drop}
+use lib.ListN.{length, drop}
 use lib.Seq.{take-append-seam}
 use Rattle.rules.specs.Command.{Command, wordsAll}
 use Rattle.rules.specs.Walk.{Parsed, refused, accepted, parse}

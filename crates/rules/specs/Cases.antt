@@ -1,6 +1,6 @@
 -- Cases P1 to P12 and N1 to N4, in one table (document 01, "Cases on each side").
 use Prim.Native.Nat.{ℕ}
-use mathlib.Core.Bool.{Bool, true, false, _&&_}
+use mathlib.Core.Bool.{Bool, true, _&&_}
 use mathlib.Core.List.{List, [], _∷_}
 use lib.Dec.{eqb}
 use lib.ListN.{length, getD, replicate, set}

@@ -1,21 +1,21 @@
 -- The rows and the tests on ids hold document 01's table: one test over all ids, computed once, and the facts read off it.
-use Prim.Native.Nat.{ℕ, zero, suc, _+_, _*_, _≤_, _<_}
+use Prim.Native.Nat.{ℕ, zero, suc, _+_, _≤_, _<_}
 use native.Mathlib.Nat.{add-zero, zero-add, add-suc, suc-add, le-of-suc-le-suc, not-suc-le-zero}
 use native.Mathlib.Omega.{arith}
-use mathlib.Core.Path.{_≡_, refl, ap, ap₂, sym, _∙_, subst}
+use mathlib.Core.Path.{_≡_, refl, ap, sym, _∙_}
 use mathlib.Core.Bool.{Bool, true, false, cond, not, _&&_, _||_}
-use mathlib.Core.List.{List, [], _∷_}
+use mathlib.Core.List.{List, _∷_}
 use mathlib.Core.Option.{Option, none, some}
 use lib.Dec.{eqb, leb, ltb}
-use borrow.Author.Tests.{eqb-true, ltb-true, leb-true, not-true}
+use borrow.Author.Tests.{eqb-true, ltb-true, not-true}
 use lib.ListN.{length, getD}
 use Rattle.rules.specs.Table.{Kind, setting, plain, keeps, begins, Row, table, rowOf, isSetting, isBegin, isBase}
 use Rattle.rules.specs.Form.{equal}
 use Rattle.rules.proofs.Bools.{and-left, and-right}
 use Rattle.rules.proofs.Image.{equal-true}
 use Rattle.table.specs.declared.Group.{Group}
-use Rattle.table.specs.Ids.{ofRow, beginId, settingId, isGroup, groupId, settingKind}
-use Rattle.table.specs.Tables.{baseRow, timerRow, beginRow, clipRow, values, rowNumber, rowTable, orUnknown, rowAt, maskOf, masksOf, more, rowMasks}
+use Rattle.table.specs.Ids.{beginId, settingId, groupId, settingKind}
+use Rattle.table.specs.Tables.{baseRow, timerRow, beginRow, clipRow, values, rowNumber, rowTable, orUnknown, rowAt, masksOf, more, rowMasks}
 
 -- ---- a table of a rule's values, and a test at each of its numbers
 

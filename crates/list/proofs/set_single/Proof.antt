@@ -1,4 +1,3 @@
-use native.Mathlib.Omega.{arith}
 use mathlib.Core.Path.{sym}
 use Rattle.list.proofs.Effects.{is-single}
 use borrow.Author.Needs.{needs}

@@ -1,6 +1,6 @@
 use native.Mathlib.Omega.{arith}
 use Prim.Native.Nat.{_-_}
-use mathlib.Core.Path.{sym, ap, _∙_}
+use mathlib.Core.Path.{sym, _∙_}
 use lib.ListN.{length}
 use Rattle.list.proofs.Steps.{Walking, walking-start, walking-stop, walking-on, walking-end}
 use borrow.Author.Needs.{needs}

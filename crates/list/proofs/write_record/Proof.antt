@@ -1,4 +1,4 @@
-use mathlib.Core.Path.{sym, _∙_}
+use mathlib.Core.Path.{_∙_}
 use Rattle.list.proofs.Effects.{is-work}
 use borrow.Author.Needs.{needs}
 use Rattle.list.proofs.write_record.Statement.{statement}
