@@ -1,6 +1,7 @@
-/* Reads a list and writes its normal form, from C. */
+/* Reads a list, writes its normal form, and its PCI writes and the list of these, from C. */
 #include <inttypes.h>
 #include <stdio.h>
+#include <string.h>
 
 #include "xp10.h"
 
@@ -19,6 +20,8 @@ int main(void)
     static const uint32_t start[256] = {0};
     uint32_t records[4 * WORDS(list)] = {0};
     uint32_t out[WORDS(list)] = {0};
+    uint32_t pairs[2 * WORDS(list)] = {0};
+    uint32_t back[WORDS(list)] = {0};
     uint32_t answer[XP10_ANSWER_WORDS] = {0};
 
     xp10_read(list, WORDS(list), image, WORDS(image), records, WORDS(records), answer, WORDS(answer));
@@ -31,5 +34,21 @@ int main(void)
     print_answer("normalise", answer);
     for (uint32_t i = 0; i < answer[XP10_WORDS]; i++)
         printf("%08" PRIx32 "\n", out[i]);
+
+    xp10_to_pci(list, WORDS(list), start, WORDS(start), pairs, WORDS(pairs), answer, WORDS(answer));
+    print_answer("to_pci", answer);
+    for (uint32_t i = 0; i < answer[XP10_WORDS]; i += 2)
+        printf("%04" PRIx32 " %08" PRIx32 "\n", pairs[i], pairs[i + 1]);
+
+    xp10_from_pci(pairs, WORDS(pairs), start, WORDS(start), back, WORDS(back), answer, WORDS(answer));
+    print_answer("from_pci", answer);
+    printf("%s\n", memcmp(back, list, sizeof list) == 0 ? "the same list" : "another list");
+
+    pairs[7] += 4;
+    xp10_from_pci(pairs, WORDS(pairs), start, WORDS(start), back, WORDS(back), answer, WORDS(answer));
+    print_answer("one value changed", answer);
+    pairs[6] += 4;
+    xp10_from_pci(pairs, WORDS(pairs), start, WORDS(start), back, WORDS(back), answer, WORDS(answer));
+    print_answer("and its address", answer);
     return 0;
 }

@@ -1,4 +1,4 @@
-//! Reads a list and writes its normal form, from Rust.
+//! Reads a list, writes its normal form, and its PCI writes and the list of these, from Rust.
 
 extern "C" {
     fn xp10_read(
@@ -19,6 +19,28 @@ extern "C" {
         image_words: usize,
         out: *mut u32,
         out_words: usize,
+        answer: *mut u32,
+        answer_words: usize,
+    ) -> u32;
+
+    fn xp10_to_pci(
+        list: *const u32,
+        list_words: usize,
+        image: *const u32,
+        image_words: usize,
+        pairs: *mut u32,
+        pairs_words: usize,
+        answer: *mut u32,
+        answer_words: usize,
+    ) -> u32;
+
+    fn xp10_from_pci(
+        pairs: *const u32,
+        pairs_words: usize,
+        image: *const u32,
+        image_words: usize,
+        list: *mut u32,
+        list_words: usize,
         answer: *mut u32,
         answer_words: usize,
     ) -> u32;
@@ -45,13 +67,16 @@ fn read(list: &[u32], image: &mut [u32], records: &mut [u32]) -> Answer {
     answer
 }
 
-fn normalise(list: &[u32], image: &[u32], out: &mut [u32]) -> Answer {
+/// A function that only reads the image and writes words: the normaliser, and PCI writes from a list and back.
+type Writer = unsafe extern "C" fn(*const u32, usize, *const u32, usize, *mut u32, usize, *mut u32, usize) -> u32;
+
+fn write(function: Writer, words: &[u32], image: &[u32], out: &mut [u32]) -> Answer {
     let mut answer = [0; 5];
     // SAFETY: as for `read`.
     unsafe {
-        xp10_normalise(
-            list.as_ptr(),
-            list.len(),
+        function(
+            words.as_ptr(),
+            words.len(),
             image.as_ptr(),
             image.len(),
             out.as_mut_ptr(),
@@ -74,6 +99,8 @@ fn main() {
     let mut image = start;
     let mut records = [0; 44];
     let mut out = [0; 11];
+    let mut pairs = [0; 22];
+    let mut back = [0; 11];
 
     let answer = read(&list, &mut image, &mut records);
     print_answer("read", answer);
@@ -82,9 +109,23 @@ fn main() {
     }
     println!("image word 02 is {:06x}", image[0x02]);
 
-    let answer = normalise(&list, &start, &mut out);
+    let answer = write(xp10_normalise, &list, &start, &mut out);
     print_answer("normalise", answer);
     for word in &out[..answer[4] as usize] {
         println!("{word:08x}");
     }
+
+    let answer = write(xp10_to_pci, &list, &start, &mut pairs);
+    print_answer("to_pci", answer);
+    for pair in pairs[..answer[4] as usize].chunks(2) {
+        println!("{:04x} {:08x}", pair[0], pair[1]);
+    }
+
+    print_answer("from_pci", write(xp10_from_pci, &pairs, &start, &mut back));
+    println!("{}", if back == list { "the same list" } else { "another list" });
+
+    pairs[7] += 4;
+    print_answer("one value changed", write(xp10_from_pci, &pairs, &start, &mut back));
+    pairs[6] += 4;
+    print_answer("and its address", write(xp10_from_pci, &pairs, &start, &mut back));
 }

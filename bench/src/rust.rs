@@ -2,14 +2,14 @@
 
 #![forbid(unsafe_code)]
 
-const LIMIT: usize = 4096;
-const IMAGE: usize = 256;
+pub const LIMIT: usize = 4096;
+pub const IMAGE: usize = 256;
 const HEADER: u32 = 0x00FF_FFFF;
 const ANY: u32 = 0xFFFF_FFFF;
 
 /// What a command leaves.
 #[derive(Clone, Copy, PartialEq, Eq)]
-enum Kind {
+pub enum Kind {
     /// No such command.
     Unknown,
     /// Its words in the image: the setting of this number, in rising id.
@@ -24,10 +24,10 @@ enum Kind {
 
 /// A row of the table of commands.
 #[derive(Clone, Copy)]
-struct Row {
-    masks: [u32; 4],
-    size: u8,
-    kind: Kind,
+pub struct Row {
+    pub masks: [u32; 4],
+    pub size: u8,
+    pub kind: Kind,
 }
 
 const fn one(header: u32, kind: Kind) -> Row {
@@ -38,13 +38,13 @@ const fn four(masks: [u32; 4], kind: Kind) -> Row {
     Row { masks, size: 4, kind }
 }
 
-const LOAD: u8 = 0x40;
-const PRIMITIVE: u8 = 0x48;
-const WINDOW_CLIP: u8 = 0x84;
-const RASTER_MODE: u8 = 0x88;
+pub const LOAD: u8 = 0x40;
+pub const PRIMITIVE: u8 = 0x48;
+pub const WINDOW_CLIP: u8 = 0x84;
+pub const RASTER_MODE: u8 = 0x88;
 
 /// The row of each id.
-static ROWS: [Row; 256] = rows();
+pub static ROWS: [Row; 256] = rows();
 
 const fn rows() -> [Row; 256] {
     let mut rows = [one(0, Kind::Unknown); 256];
@@ -82,16 +82,16 @@ static SETTINGS: [(usize, usize); 9] =
     [(0x02, 1), (0x26, 1), (0x30, 1), (0x31, 1), (0x84, 4), (0x88, 4), (0x8C, 4), (0x90, 4), (0xC4, 4)];
 
 /// A verdict above 0, with its position.
-struct Refusal(u32, usize);
+pub struct Refusal(pub u32, pub usize);
 
 /// What a list was found to hold.
-struct Counts {
-    commands: u32,
-    records: u32,
+pub struct Counts {
+    pub commands: u32,
+    pub records: u32,
 }
 
 #[cold]
-fn unknown(id: u8, at: usize) -> Refusal {
+pub fn unknown(id: u8, at: usize) -> Refusal {
     Refusal(if id == 3 || id == 4 { 4 } else { 3 }, at)
 }
 
@@ -101,7 +101,8 @@ fn undefined(words: [u32; 4], masks: &[u32; 4], at: usize) -> Refusal {
     Refusal(6, at + word)
 }
 
-fn check_load(words: [u32; 4], at: usize) -> Result<(), Refusal> {
+#[inline(always)]
+pub fn check_load(words: [u32; 4], at: usize) -> Result<(), Refusal> {
     let code = words[0] >> 20 & 7;
     let zero = match code {
         0 | 5 => [true, true, true],
@@ -127,7 +128,8 @@ fn check_primitive(words: [u32; 4], at: usize) -> Result<(), Refusal> {
     }
 }
 
-fn check_window_clip(words: [u32; 4], at: usize) -> Result<(), Refusal> {
+#[inline(always)]
+pub fn check_window_clip(words: [u32; 4], at: usize) -> Result<(), Refusal> {
     let limit = match words[1] >> 28 & 3 {
         0 => 15,
         1 => 11,
@@ -141,20 +143,21 @@ fn check_window_clip(words: [u32; 4], at: usize) -> Result<(), Refusal> {
     Ok(())
 }
 
-fn check_raster_mode(words: [u32; 4], at: usize) -> Result<(), Refusal> {
+#[inline(always)]
+pub fn check_raster_mode(words: [u32; 4], at: usize) -> Result<(), Refusal> {
     if words[0] & (1 << 22 | 1 << 14) == 1 << 14 {
         return Err(Refusal(8, at));
     }
     Ok(())
 }
 
-fn split(first: u32) -> (u8, u32, &'static Row) {
+pub fn split(first: u32) -> (u8, u32, &'static Row) {
     let id = (first >> 24) as u8;
     (id, first & HEADER, &ROWS[id as usize])
 }
 
 /// The size in words, with payload, of a command of four words.
-fn group_size(id: u8, header: u32) -> usize {
+pub fn group_size(id: u8, header: u32) -> usize {
     if id == LOAD {
         4 + 4 * (header & 511) as usize
     } else {
@@ -163,7 +166,8 @@ fn group_size(id: u8, header: u32) -> usize {
 }
 
 /// Checks a command of four words, and gives its size.
-fn check_group(id: u8, header: u32, row: &Row, rest: &[u32], at: usize) -> Result<usize, Refusal> {
+#[inline(always)]
+pub fn check_group(id: u8, header: u32, row: &Row, rest: &[u32], at: usize) -> Result<usize, Refusal> {
     let Some(&[_, second, third, fourth]) = rest.first_chunk::<4>() else {
         return Err(Refusal(5, at));
     };
@@ -215,18 +219,18 @@ fn check(list: &[u32]) -> Result<Counts, Refusal> {
 }
 
 /// Writes as many of the five numbers as the buffer has room for, and gives the verdict.
-fn give(answer: &mut [u32], numbers: [u32; 5]) -> u32 {
+pub fn give(answer: &mut [u32], numbers: [u32; 5]) -> u32 {
     for (slot, number) in answer.iter_mut().zip(numbers) {
         *slot = number;
     }
     numbers[0]
 }
 
-fn refuse(answer: &mut [u32], Refusal(verdict, position): Refusal) -> u32 {
+pub fn refuse(answer: &mut [u32], Refusal(verdict, position): Refusal) -> u32 {
     give(answer, [verdict, position as u32, 0, 0, 0])
 }
 
-fn check_all(list: &[u32], image: &[u32]) -> Result<Counts, Refusal> {
+pub fn check_all(list: &[u32], image: &[u32]) -> Result<Counts, Refusal> {
     if list.len() > LIMIT {
         return Err(Refusal(1, LIMIT));
     }

@@ -1,5 +1,5 @@
 /*
- * XP10 command lists: the reader and the normaliser, proved in Rattle (crates/host).
+ * XP10 command lists: the reader, the normaliser, and PCI writes from a list and back, proved in Rattle (crates/host).
  * Link with target/staticlib/libhost.a, which `rt staticlib host` makes.
  *
  * Each slice is a pointer and a number of 32-bit words. No pointer is null, also with no words, and a slice that is
@@ -28,7 +28,9 @@ enum {
     XP10_CLASH = 8,            /* clip thresholds, raster bits, bit 23 of a load, plane range: the command's first word */
     XP10_PAYLOAD_CUT_SHORT = 9, /* the command's first word */
     XP10_NO_BEGIN = 10,        /* follows a surface base and is no BEGIN: the command's first word */
-    XP10_BUFFER_TOO_SMALL = 11 /* the list's length */
+    XP10_BUFFER_TOO_SMALL = 11, /* the list's length */
+    XP10_WRONG_ADDRESS = 13,   /* of a PCI write: the number of that pair, from 0 on */
+    XP10_PAIRS_CUT_SHORT = 14  /* PCI writes that end inside a command: the number of the command's first pair */
 };
 
 /* The numbers of an answer. Those that `answer` has no room for are left out. After a refusal the last three are 0. */
@@ -37,7 +39,7 @@ enum {
     XP10_POSITION,
     XP10_COMMANDS,
     XP10_RECORDS,
-    XP10_WORDS, /* the words written to `records` or `out` */
+    XP10_WORDS, /* the words written to `records`, `out`, `pairs` or `list` */
     XP10_ANSWER_WORDS
 };
 
@@ -58,6 +60,27 @@ uint32_t xp10_normalise(const uint32_t *list, size_t list_words,
                         const uint32_t *image, size_t image_words,
                         uint32_t *out, size_t out_words,
                         uint32_t *answer, size_t answer_words);
+
+/*
+ * Writes a list as PCI writes, for a board without list fetch: returns the verdict. Two words for each of the list, the
+ * address and the value: a command's first word goes to 0x2800 + id * 4, a group's next three to the next three addresses
+ * in steps of 4, and each payload group to the same four again. It refuses what the reader refuses; a refusal leaves
+ * `pairs` as it was.
+ */
+uint32_t xp10_to_pci(const uint32_t *list, size_t list_words,
+                     const uint32_t *image, size_t image_words,
+                     uint32_t *pairs, size_t pairs_words,
+                     uint32_t *answer, size_t answer_words);
+
+/*
+ * Writes the list that PCI writes carry: returns the verdict. An odd last word is ignored. XP10_LIST_TOO_LONG and
+ * XP10_IMAGE_SIZE come first, then XP10_WRONG_ADDRESS or XP10_PAIRS_CUT_SHORT as the pairs are met, then what the reader
+ * refuses in the list, at its word there, last XP10_BUFFER_TOO_SMALL. A refusal leaves `list` as it was.
+ */
+uint32_t xp10_from_pci(const uint32_t *pairs, size_t pairs_words,
+                       const uint32_t *image, size_t image_words,
+                       uint32_t *list, size_t list_words,
+                       uint32_t *answer, size_t answer_words);
 
 #ifdef __cplusplus
 }

@@ -1,32 +1,35 @@
 //! Counts of verdicts over many cases, and the comparison with the proved library.
 
 use crate::lists::{self, Case, Image};
-use crate::outcome;
+use crate::outcome::{self, Function};
 use crate::rules;
 
-const VERDICTS: usize = 12;
+/// 12 is the listing program's alone.
+const VERDICTS: usize = 15;
 
-/// How often each verdict was given.
+/// How often each function gave each verdict.
 #[derive(Default)]
-pub struct Tally {
-    reader: [u64; VERDICTS],
-    normaliser: [u64; VERDICTS],
-}
+pub struct Tally([[u64; VERDICTS]; Function::ALL.len()]);
 
 impl Tally {
     pub fn add(&mut self, case: &Case) {
-        self.reader[outcome::read(rules::paper(), case).answer[0] as usize] += 1;
-        self.normaliser[outcome::normalise(rules::paper(), case).answer[0] as usize] += 1;
+        for function in Function::ALL {
+            self.count(function, outcome::of(function, rules::paper(), case).answer[0]);
+        }
+    }
+
+    fn count(&mut self, function: Function, verdict: u32) {
+        self.0[function as usize][verdict as usize] += 1;
     }
 
     /// A title and a line for each verdict, with numbers of at least this width.
     pub fn lines(&self, width: usize) -> String {
         let first = width.min(7);
-        let mut text =
-            format!("{:>first$} {:>width$} {:>width$}\n", "verdict", "reader", "normaliser");
-        for (verdict, (reader, normaliser)) in self.reader.iter().zip(&self.normaliser).enumerate()
-        {
-            text += &format!("{verdict:first$} {reader:width$} {normaliser:width$}\n");
+        let names = Function::ALL.map(|function| format!(" {:>width$}", function.name()));
+        let mut text = format!("{:>first$}{}\n", "verdict", names.concat());
+        for verdict in 0..VERDICTS {
+            let counts = self.0.map(|of_function| format!(" {:width$}", of_function[verdict]));
+            text += &format!("{verdict:first$}{}\n", counts.concat());
         }
         text
     }
@@ -51,11 +54,9 @@ pub fn show(index: usize, seed: u64) {
     let fixed = lists::fixed_cases();
     let case = lists::case(&fixed, index, seed);
     print_case(&case, usize::MAX);
-    for (name, outcome) in [
-        ("reader", outcome::read(rules::paper(), &case)),
-        ("normaliser", outcome::normalise(rules::paper(), &case)),
-    ] {
-        println!("{name}: {:?}", outcome.answer);
+    for function in Function::ALL {
+        let outcome = outcome::of(function, rules::paper(), &case);
+        println!("{}: {:?}", function.name(), outcome.answer);
         let written = outcome.answer[4] as usize;
         println!("  written {}", hex(&outcome.buffer[..written], usize::MAX));
         if outcome.image != case.image.words() {
@@ -72,7 +73,10 @@ fn print_case(case: &Case, longest: usize) {
         Image::Seeded { seed, len } => println!("  image   {len} words of seed {seed:08X}"),
         Image::Words(words) => println!("  image   {}", hex(words, longest)),
     }
-    println!("  room    {} words for records, {} for the form", case.records_len, case.out_len);
+    let Case { records_len, out_len, pci_len, .. } = case;
+    println!(
+        "  room    {records_len} words for records, {out_len} for the form, {pci_len} for PCI"
+    );
 }
 
 fn hex(words: &[u32], longest: usize) -> String {
@@ -130,13 +134,12 @@ mod with_proved {
 
     fn compare_case(case: &Case, answer_len: usize, tally: &mut Tally) -> Vec<String> {
         let mut found = Vec::new();
-        let expected = outcome::read(rules::paper(), case);
-        tally.reader[expected.answer[0] as usize] += 1;
-        differences("reader", case, &expected, &proved::read(case, answer_len), &mut found);
-        let expected = outcome::normalise(rules::paper(), case);
-        tally.normaliser[expected.answer[0] as usize] += 1;
-        let call = proved::normalise(case, answer_len);
-        differences("normaliser", case, &expected, &call, &mut found);
+        for function in Function::ALL {
+            let expected = outcome::of(function, rules::paper(), case);
+            tally.count(function, expected.answer[0]);
+            let call = proved::call(function, case, answer_len);
+            differences(function.name(), case, &expected, &call, &mut found);
+        }
         found
     }
 

@@ -2,6 +2,7 @@
 
 mod commands;
 mod fixed;
+mod pairs;
 mod random;
 
 use self::commands::table;
@@ -9,6 +10,7 @@ use crate::prng::{self, Prng};
 use crate::rules::{self, IMAGE_WORDS, RECORD_WORDS};
 
 pub use fixed::{fixed_cases, fixed_sample};
+pub use pairs::random_pairs;
 pub use random::{equivalent_list, random_case};
 
 #[derive(Clone)]
@@ -18,6 +20,8 @@ pub struct Case {
     pub image: Image,
     pub records_len: usize,
     pub out_len: usize,
+    /// For pairs of the list, and for the list of its words as pairs.
+    pub pci_len: usize,
 }
 
 #[derive(Clone)]
@@ -57,13 +61,23 @@ impl Purpose {
             Purpose::Store => wanted.min(5000),
         }
     }
+
+    fn pci_length(self, wanted: usize) -> usize {
+        match self {
+            Purpose::Run => wanted,
+            Purpose::Store => wanted.min(8200),
+        }
+    }
 }
 
-/// Case number `index`: the fixed ones first, then random ones.
+/// Case number `index`: the fixed ones first, then random ones, every third of pairs.
 pub fn case(fixed: &[Case], index: usize, seed: u64) -> Case {
     match fixed.get(index) {
         Some(case) => case.clone(),
-        None => random_case(&mut Prng::new(seed, index as u64), Purpose::Run),
+        None => {
+            let of = if index % 3 == 2 { random_pairs } else { random_case };
+            of(&mut Prng::new(seed, index as u64), Purpose::Run)
+        }
     }
 }
 
@@ -85,30 +99,41 @@ fn with_buffers(
     image: Image,
     purpose: Purpose,
 ) -> Case {
-    let (records, form) = needed_words(&list, &image);
-    let records_len = any_buffer_length(rng, records, purpose);
-    let out_len = any_buffer_length(rng, form, purpose);
-    Case { class, list, image, records_len, out_len }
+    let needed = needed_words(&list, &image);
+    let records_len = purpose.buffer_length(any_buffer_length(rng, needed.records));
+    let out_len = purpose.buffer_length(any_buffer_length(rng, needed.form));
+    let pci_len = purpose.pci_length(any_buffer_length(rng, needed.pci));
+    Case { class, list, image, records_len, out_len, pci_len }
 }
 
 /// The list with a zero image and room for everything.
 fn plain(class: &'static str, list: Vec<u32>, purpose: Purpose) -> Case {
     let records_len = purpose.buffer_length(RECORD_WORDS * list.len() + 4);
     let out_len = purpose.buffer_length(list.len() + 4);
-    Case { class, list, image: Image::ZERO, records_len, out_len }
+    let pci_len = purpose.pci_length(2 * list.len() + 4);
+    Case { class, list, image: Image::ZERO, records_len, out_len, pci_len }
 }
 
-/// The words that the reader and the normaliser have to write, 0 on refusal.
-fn needed_words(list: &[u32], image: &Image) -> (usize, usize) {
+/// The words that have to be written, 0 on refusal.
+struct Needed {
+    records: usize,
+    form: usize,
+    /// Of the list's pairs or of the pairs' list; more where both are accepted.
+    pci: usize,
+}
+
+fn needed_words(list: &[u32], image: &Image) -> Needed {
     let mut words = image.words();
     let mut room = vec![0; RECORD_WORDS * list.len()];
-    let form = rules::paper().normalise(list, &words, &mut room).words;
-    let records = rules::paper().read(list, &mut words, &mut room).words;
-    (records as usize, form as usize)
+    let form = rules::paper().normalise(list, &words, &mut room).words as usize;
+    let pairs = rules::paper().to_pci(list, &words, &mut room).words as usize;
+    let of_pairs = rules::paper().from_pci(list, &words, &mut room).words as usize;
+    let records = rules::paper().read(list, &mut words, &mut room).words as usize;
+    Needed { records, form, pci: pairs.max(of_pairs) }
 }
 
-fn any_buffer_length(rng: &mut Prng, needed: usize, purpose: Purpose) -> usize {
-    purpose.buffer_length(match rng.below(16) {
+fn any_buffer_length(rng: &mut Prng, needed: usize) -> usize {
+    match rng.below(16) {
         0 => 0,
         1 | 2 => needed,
         3 => needed.saturating_sub(1),
@@ -120,7 +145,7 @@ fn any_buffer_length(rng: &mut Prng, needed: usize, purpose: Purpose) -> usize {
         9 => needed + 4,
         10 if rng.once_in(50) => 20_000,
         _ => needed + rng.below(40),
-    })
+    }
 }
 
 fn any_image(rng: &mut Prng, list: &[u32], purpose: Purpose) -> Image {

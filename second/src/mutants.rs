@@ -13,6 +13,7 @@ use crate::rules;
 use changes::Mutant;
 use std::io;
 use std::path::Path;
+use std::thread;
 use stored::{Seen, Stored};
 
 /// Random cases on which the changes that no list can show are run.
@@ -94,19 +95,29 @@ impl Tally {
     }
 }
 
-/// Runs changes on the fixed cases and many random ones; how many of them some case shows.
+/// Runs changes on the fixed cases and many random ones, half of the changes on each of two threads;
+/// how many of them some case shows.
 fn run_at_length(mutants: &[Mutant]) -> usize {
     let fixed = lists::fixed_cases();
+    let (first, second) = mutants.split_at(mutants.len() / 2);
+    thread::scope(|scope| {
+        let first = scope.spawn(|| shown(first, &fixed));
+        shown(second, &fixed) + first.join().expect("the changes run")
+    })
+}
+
+fn shown(mutants: &[Mutant], fixed: &[Case]) -> usize {
     let mut open: Vec<&Mutant> = mutants.iter().collect();
     for index in 0..fixed.len() + RANDOM_CASES {
         if open.is_empty() {
             break;
         }
-        let case = lists::case(&fixed, index, 1);
-        let expected = [Function::Reader, Function::Normaliser]
-            .map(|function| (function, outcome::of(function, rules::paper(), &case)));
+        let case = lists::case(fixed, index, 1);
+        let expected =
+            Function::ALL.map(|function| (function, outcome::of(function, rules::paper(), &case)));
         open.retain(|mutant| {
-            let mut differences = expected.iter().filter_map(|(function, expected)| {
+            let concerned = expected.iter().filter(|(function, _)| mutant.concerns(*function));
+            let mut differences = concerned.filter_map(|(function, expected)| {
                 outcome::difference(*function, &mutant.run(*function, &case), expected)
             });
             let shown = differences.next().or_else(|| other_listing(mutant, &case));

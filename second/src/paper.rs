@@ -92,6 +92,20 @@ pub const GUIDE_PUT: &[u32] = &[
     0x40200001, 0x01000006, 0x03020006, 0x05040006, 0x07060006, 0x0008009A, 0x0C000904, 0x19180007,
 ];
 
+/// Lists with the pairs of their writes. The guide's own, in its master engine notes: a reset, the
+/// null primitive; then its put load, at the addresses that it gives for loads.
+pub const GUIDE_WRITES: [(&[u32], &[u32]); 3] = [
+    (&[0x01000004], &[0x2804, 0x01000004]),
+    (&[0x48000000, 0, 0, 0], &[0x2920, 0x48000000, 0x2924, 0, 0x2928, 0, 0x292C, 0]),
+    (
+        GUIDE_PUT,
+        &[
+            0x2900, 0x40200001, 0x2904, 0x01000006, 0x2908, 0x03020006, 0x290C, 0x05040006, //
+            0x2900, 0x07060006, 0x2904, 0x0008009A, 0x2908, 0x0C000904, 0x290C, 0x19180007,
+        ],
+    ),
+];
+
 pub const LISTING_WORDS: [u32; 11] = [
     0x02000010, 0x00000300, 0x48000000, 0x00000000, 0x00000000, 0x00000000, 0x21000100, 0x10100007,
     0x00000000, 0x00000000, 0x00000000,

@@ -1,7 +1,7 @@
 //! The proved library's functions, called with words around each lent slice that must stay.
 
 use crate::lists::Case;
-use crate::outcome::prefilled;
+use crate::outcome::{prefilled, Function};
 
 extern "C" {
     fn xp10_read(
@@ -22,6 +22,28 @@ extern "C" {
         image_len: usize,
         out: *mut u32,
         out_len: usize,
+        answer: *mut u32,
+        answer_len: usize,
+    ) -> u32;
+
+    fn xp10_to_pci(
+        list: *const u32,
+        list_len: usize,
+        image: *const u32,
+        image_len: usize,
+        pairs: *mut u32,
+        pairs_len: usize,
+        answer: *mut u32,
+        answer_len: usize,
+    ) -> u32;
+
+    fn xp10_from_pci(
+        pairs: *const u32,
+        pairs_len: usize,
+        image: *const u32,
+        image_len: usize,
+        list: *mut u32,
+        list_len: usize,
         answer: *mut u32,
         answer_len: usize,
     ) -> u32;
@@ -93,14 +115,36 @@ impl LentWords {
     }
 }
 
-pub fn read(case: &Case, answer_len: usize) -> Call {
-    let mut lent = LentWords::new(case, case.records_len, answer_len);
+/// A call with only the list and the image to read from.
+type Reading = unsafe extern "C" fn(
+    *const u32,
+    usize,
+    *const u32,
+    usize,
+    *mut u32,
+    usize,
+    *mut u32,
+    usize,
+) -> u32;
+
+pub fn call(function: Function, case: &Case, answer_len: usize) -> Call {
+    let mut lent = LentWords::new(case, function.buffer_len(case), answer_len);
+    let returned = match function {
+        Function::Reader => read(&mut lent),
+        Function::Normaliser => call_reading(xp10_normalise, &mut lent),
+        Function::ToPci => call_reading(xp10_to_pci, &mut lent),
+        Function::FromPci => call_reading(xp10_from_pci, &mut lent),
+    };
+    lent.call(returned)
+}
+
+fn read(lent: &mut LentWords) -> u32 {
     let list = lent.list.words();
     let image = lent.image.words();
     let records = lent.buffer.words();
     let answer = lent.answer.words();
     // SAFETY: each pointer is of a slice with the length beside it; no two slices overlap.
-    let returned = unsafe {
+    unsafe {
         xp10_read(
             list.as_ptr(),
             list.len(),
@@ -111,28 +155,25 @@ pub fn read(case: &Case, answer_len: usize) -> Call {
             answer.as_mut_ptr(),
             answer.len(),
         )
-    };
-    lent.call(returned)
+    }
 }
 
-pub fn normalise(case: &Case, answer_len: usize) -> Call {
-    let mut lent = LentWords::new(case, case.out_len, answer_len);
+fn call_reading(function: Reading, lent: &mut LentWords) -> u32 {
     let list = lent.list.words();
     let image = lent.image.words();
-    let out = lent.buffer.words();
+    let buffer = lent.buffer.words();
     let answer = lent.answer.words();
     // SAFETY: as for `read`.
-    let returned = unsafe {
-        xp10_normalise(
+    unsafe {
+        function(
             list.as_ptr(),
             list.len(),
             image.as_ptr(),
             image.len(),
-            out.as_mut_ptr(),
-            out.len(),
+            buffer.as_mut_ptr(),
+            buffer.len(),
             answer.as_mut_ptr(),
             answer.len(),
         )
-    };
-    lent.call(returned)
+    }
 }

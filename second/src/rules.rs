@@ -1,23 +1,25 @@
-//! Reading, normalising and listing by document 01.
+//! Reading, normalising and listing by document 01, and PCI writes by Ticket 1 of document 02.
 //!
-//! What document 01 fixes stands in `document` as a value of `Rules`; here is what it says to do
+//! What the documents fix stands in `document` as a value of `Rules`; here is what they say to do
 //! with it. Nothing may panic for a `Rules` with one part changed, so that `mutants` can run it.
 
 mod document;
 mod form;
 mod language;
 mod listing;
+mod pci;
 mod shape;
 
+use std::ops::Range;
 use std::sync::LazyLock;
 
 pub use document::{Terms, IMAGE_WORDS, MAX_LIST_WORDS, RECORD_WORDS};
-pub use language::{Comparison, Facts, Field, Mask, Set, Test, Value};
+pub use language::{Address, Comparison, Facts, Field, Mask, Set, Test, Value};
 pub use shape::*;
 
 static PAPER: LazyLock<Rules> = LazyLock::new(Rules::paper);
 
-/// The rules of document 01.
+/// The rules of the documents.
 pub fn paper() -> &'static Rules {
     &PAPER
 }
@@ -83,6 +85,7 @@ impl Rules {
                 When::Holds(test) => test.holds(facts).then_some(0),
                 When::UndefinedBit(which) => self.undefined_word(row, facts.words, *which),
                 When::Fault(kind) => row.fault(*kind, facts),
+                When::WrongAddress(which) => wrong_address(facts.addresses, *which),
             };
             if let Some(word) = found {
                 let position = match check.position {
@@ -104,11 +107,7 @@ impl Rules {
             let word = if k == 0 { self.tested_header.of(words) } else { words[k] };
             word & !row.masks[k].bits != 0
         };
-        let mut all = 0..words.len();
-        match which {
-            WhichWord::Lowest => all.find(outside),
-            WhichWord::Highest => all.rev().find(outside),
-        }
+        which.of(0..words.len(), outside)
     }
 
     /// The command at a position, or the first of verdicts 3 to 10 that it meets.
@@ -270,6 +269,20 @@ impl Rules {
         put(out, &form);
         Ok(self.accepted(list, &commands, form.len()))
     }
+}
+
+impl WhichWord {
+    fn of(self, mut all: Range<usize>, found: impl Fn(&usize) -> bool) -> Option<usize> {
+        match self {
+            WhichWord::Lowest => all.find(found),
+            WhichWord::Highest => all.rev().find(found),
+        }
+    }
+}
+
+/// A pair of the command whose address isn't the expected one.
+fn wrong_address(addresses: &[Address], which: WhichWord) -> Option<usize> {
+    which.of(0..addresses.len(), |&k| addresses[k].given != addresses[k].expected)
 }
 
 /// Puts words at a buffer's front.

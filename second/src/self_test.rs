@@ -2,19 +2,21 @@
 
 use crate::listings::bytes;
 use crate::lists::{self, Purpose};
-use crate::outcome::{self, prefilled};
+use crate::outcome::{self, prefilled, Function};
 use crate::paper::{self, Expected, PaperCase};
 use crate::prng::Prng;
 use crate::rules::{self, Answer, IMAGE_WORDS, RECORD_WORDS};
 
 /// Each panics when it fails.
-pub const CHECKS: [(&str, fn()); 6] = [
+pub const CHECKS: [(&str, fn()); 8] = [
     ("cases of document 01", paper_cases),
+    ("the guide's writes", guide_writes),
     ("listing", listings),
     ("lent words", lent_words),
     ("room", room),
     ("demand 3", demand_3),
     ("equal doings, equal forms", equal_doings),
+    ("pairs and back", pairs_and_back),
 ];
 
 const RANDOM_LISTS: u64 = 20_000;
@@ -73,15 +75,16 @@ fn listings() {
 /// A refusal changes nothing; after acceptance the words behind those written are as before.
 fn lent_words() {
     for number in 0..RANDOM_LISTS {
-        let case = lists::random_case(&mut Prng::new(11, number), Purpose::Run);
-        for outcome in
-            [outcome::read(rules::paper(), &case), outcome::normalise(rules::paper(), &case)]
-        {
+        let of = if number % 3 == 2 { lists::random_pairs } else { lists::random_case };
+        let case = of(&mut Prng::new(11, number), Purpose::Run);
+        for function in Function::ALL {
+            let outcome = outcome::of(function, rules::paper(), &case);
             let [verdict, position, commands, records, words] = outcome.answer;
             let before = prefilled(outcome.buffer.len());
             assert_eq!(outcome.buffer[words as usize..], before[words as usize..]);
             if verdict == 0 {
-                assert_eq!(position as usize, case.list.len());
+                let pair_words = if function == Function::FromPci { 2 } else { 1 };
+                assert_eq!(position as usize, case.list.len() / pair_words);
                 assert!(records <= commands && commands <= position);
             } else {
                 assert_eq!([commands, records, words], [0; 3]);
@@ -118,7 +121,70 @@ fn room() {
         if let Some((_, less)) = exact.split_last_mut() {
             assert_eq!(rules::paper().normalise(&case.list, &image, less), too_small);
         }
+        pci_room(&case.list, &image, too_small);
     }
+}
+
+fn pci_room(list: &[u32], image: &[u32], too_small: Answer) {
+    let (written, mut pairs) = pairs(list, image);
+    assert_eq!((written.verdict, written.words as usize), (0, 2 * list.len()));
+    let mut recovered = vec![0; list.len()];
+    assert_eq!(rules::paper().from_pci(&pairs, image, &mut recovered).verdict, 0);
+    if let Some((_, less)) = recovered.split_last_mut() {
+        assert_eq!(rules::paper().from_pci(&pairs, image, less), too_small);
+    }
+    if let Some((_, less)) = pairs.split_last_mut() {
+        assert_eq!(rules::paper().to_pci(list, image, less), too_small);
+    }
+}
+
+/// The writer's answer and pairs, with room for exactly them.
+fn pairs(list: &[u32], image: &[u32]) -> (Answer, Vec<u32>) {
+    let mut buffer = vec![0; 2 * list.len()];
+    let answer = rules::paper().to_pci(list, image, &mut buffer);
+    buffer.truncate(answer.words as usize);
+    (answer, buffer)
+}
+
+fn recovered(pairs: &[u32], image: &[u32]) -> (Answer, Vec<u32>) {
+    let mut buffer = vec![0; pairs.len() / 2];
+    let answer = rules::paper().from_pci(pairs, image, &mut buffer);
+    buffer.truncate(answer.words as usize);
+    (answer, buffer)
+}
+
+fn guide_writes() {
+    let image = [0; IMAGE_WORDS];
+    for (list, writes) in paper::GUIDE_WRITES {
+        assert_eq!(pairs(list, &image).1, writes);
+        assert_eq!(recovered(writes, &image).1, list);
+    }
+}
+
+/// Writing and reading pairs undo each other, and the list's own refusals are the reader's.
+fn pairs_and_back() {
+    let mut back = 0;
+    for number in 0..RANDOM_LISTS {
+        let case = lists::random_case(&mut Prng::new(15, number), Purpose::Run);
+        let image = case.image.words();
+        let read = records(&case.list, &mut image.clone()).0;
+        let (written, list_pairs) = pairs(&case.list, &image);
+        assert_eq!(Answer { words: 0, ..written }, Answer { words: 0, ..read });
+        if written.verdict == 0 {
+            let (answer, list) = recovered(&list_pairs, &image);
+            assert_eq!((answer.words, answer.commands), (answer.position, written.commands));
+            assert_eq!(list, case.list);
+        }
+
+        let case = lists::random_pairs(&mut Prng::new(15, number), Purpose::Run);
+        let image = case.image.words();
+        let (answer, list) = recovered(&case.list, &image);
+        if answer.verdict == 0 {
+            back += 1;
+            assert_eq!(pairs(&list, &image).1, case.list[..2 * list.len()]);
+        }
+    }
+    assert!(back > RANDOM_LISTS / 10, "{back} accepted pairs");
 }
 
 /// What a list does, by document 01: its work with the images met, and the last image.
@@ -200,6 +266,16 @@ mod tests {
     #[test]
     fn paper_cases() {
         super::paper_cases();
+    }
+
+    #[test]
+    fn guide_writes() {
+        super::guide_writes();
+    }
+
+    #[test]
+    fn pairs_and_back() {
+        super::pairs_and_back();
     }
 
     #[test]

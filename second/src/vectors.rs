@@ -1,7 +1,7 @@
 //! The file of cases with digests of what the rules give for them.
 //!
 //! For each case: list length, image seed, image length, record buffer length, output buffer
-//! length, digest, then the list.
+//! length, PCI buffer length, digest, then the list.
 
 use crate::compare::Tally;
 use crate::listings::bytes;
@@ -14,13 +14,15 @@ use std::io;
 use std::path::Path;
 
 /// Stored after the fixed sample.
-const RANDOM_CASES: usize = 1500;
+const RANDOM_LISTS: usize = 1500;
+const RANDOM_PAIRS: usize = 700;
 
 pub fn stored_cases() -> Vec<Case> {
     let mut cases = lists::fixed_sample();
-    for number in 0..RANDOM_CASES {
-        cases.push(lists::random_case(&mut Prng::new(6, number as u64), Purpose::Store));
-    }
+    let lists = (0..RANDOM_LISTS as u64).map(|number| Prng::new(6, number));
+    cases.extend(lists.map(|mut rng| lists::random_case(&mut rng, Purpose::Store)));
+    let pairs = (0..RANDOM_PAIRS as u64).map(|number| Prng::new(7, number));
+    cases.extend(pairs.map(|mut rng| lists::random_pairs(&mut rng, Purpose::Store)));
     cases
 }
 
@@ -46,30 +48,60 @@ fn case_words(case: &Case) -> Vec<u32> {
         panic!("an image that can't be stored");
     };
     let digest = digest_of(|function| outcome::of(function, rules::paper(), case));
-    let front = [case.list.len(), seed as usize, len, case.records_len, case.out_len];
+    let Case { records_len, out_len, pci_len, .. } = *case;
+    let front = [case.list.len(), seed as usize, len, records_len, out_len, pci_len];
     let mut words: Vec<u32> = front.iter().map(|&number| number as u32).collect();
     words.push(digest);
     words.extend_from_slice(&case.list);
     words
 }
 
-/// Over the reader's answer, image and records, then the normaliser's answer and output buffer.
+/// Over the parts of all functions in turn.
 pub fn digest_of(run: impl Fn(Function) -> Outcome) -> u32 {
-    let (reader, normaliser) = (run(Function::Reader), run(Function::Normaliser));
-    let sequence =
-        [&reader.answer[..], &reader.image, &reader.buffer, &normaliser.answer, &normaliser.buffer];
-    let add = |d: u32, w: &u32| d.wrapping_mul(16_777_619).wrapping_add(*w);
-    sequence.into_iter().flatten().fold(0x811C_9DC5, add)
+    digest_of_parts(Function::ALL.map(|function| Part::of(function, &run(function))))
+}
+
+pub fn digest_of_parts(parts: [Part; Function::ALL.len()]) -> u32 {
+    parts.iter().fold(0x811C_9DC5, |digest, part| part.added_to(digest))
+}
+
+/// What a function's words do to the digest: each word w makes it d * 16777619 + w.
+#[derive(Clone, Copy)]
+pub struct Part {
+    factor: u32,
+    sum: u32,
+}
+
+impl Part {
+    /// Of the answer, the reader's image and the buffer.
+    pub fn of(function: Function, outcome: &Outcome) -> Part {
+        const FACTOR: u32 = 16_777_619;
+        let image: &[u32] = if function == Function::Reader { &outcome.image } else { &[] };
+        let words = [&outcome.answer[..], image, &outcome.buffer].into_iter().flatten();
+        words.fold(Part { factor: 1, sum: 0 }, |Part { factor, sum }, word| Part {
+            factor: factor.wrapping_mul(FACTOR),
+            sum: sum.wrapping_mul(FACTOR).wrapping_add(*word),
+        })
+    }
+
+    fn added_to(self, digest: u32) -> u32 {
+        digest.wrapping_mul(self.factor).wrapping_add(self.sum)
+    }
 }
 
 #[cfg(test)]
 mod tests {
     use super::*;
 
+    fn verdict_and_position(function: Function, case: &Case) -> [u32; 2] {
+        let answer = outcome::of(function, rules::paper(), case).answer;
+        [answer[0], answer[1]]
+    }
+
     /// The crate `vectors` reads no more.
     #[test]
     fn file_is_small() {
-        assert!(crate_files().0.len() < 524_288);
+        assert!(crate_files().0.len() < 1_048_576);
     }
 
     /// Only the plane range refuses it: seen where the length is read from fewer bits.
@@ -78,15 +110,15 @@ mod tests {
         let mut list = vec![0; 68];
         list[0] = 0x40500010;
         let case = stored_cases().into_iter().find(|case| case.list == list);
-        let answer = outcome::read(rules::paper(), &case.expect("the case")).answer;
-        assert_eq!(answer, [8, 0, 0, 0, 0]);
+        let answer = verdict_and_position(Function::Reader, &case.expect("the case"));
+        assert_eq!(answer, [8, 0]);
     }
 
     #[test]
     fn lengths_are_limited() {
         for case in stored_cases() {
             assert!(case.image.words().len() <= 300);
-            assert!(case.records_len <= 5000 && case.out_len <= 5000);
+            assert!(case.records_len <= 5000 && case.out_len <= 5000 && case.pci_len <= 8200);
         }
     }
 
@@ -96,17 +128,19 @@ mod tests {
         let bits: Vec<&Case> =
             cases.iter().filter(|case| case.class == "every undefined bit").collect();
         assert!(!bits.is_empty());
-        assert!(bits.iter().all(|case| outcome::read(rules::paper(), case).answer[0] == 6));
+        assert!(bits.iter().all(|case| verdict_and_position(Function::Reader, case)[0] == 6));
     }
 
     #[test]
     fn every_verdict_is_there() {
-        let mut reader = [0; 12];
-        let mut normaliser = [0; 12];
-        for case in stored_cases() {
-            reader[outcome::read(rules::paper(), &case).answer[0] as usize] += 1;
-            normaliser[outcome::normalise(rules::paper(), &case).answer[0] as usize] += 1;
+        let cases = stored_cases();
+        for function in Function::ALL {
+            let of = |case| verdict_and_position(function, case)[0];
+            let given: Vec<u32> = cases.iter().map(of).collect();
+            for verdict in function.verdicts() {
+                let count = given.iter().filter(|given| **given == verdict).count();
+                assert!(count >= 2, "{} gives {verdict} {count} times", function.name());
+            }
         }
-        assert!(reader.iter().chain(&normaliser).all(|&count| count >= 2));
     }
 }

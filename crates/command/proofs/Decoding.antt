@@ -4,7 +4,7 @@ use native.Mathlib.Nat.{add-zero}
 use native.Mathlib.Numerals.{add-one, add-two, add-three}
 use native.Mathlib.Omega.{arith}
 use mathlib.Core.Path.{_≡_, refl, ap, ap₂, sym, _∙_}
-use mathlib.Core.Bool.{Bool, true, false, cond, not}
+use mathlib.Core.Bool.{Bool, true, false, cond, not, _||_}
 use mathlib.Core.List.{List, _∷_}
 use mathlib.Core.Option.{Option, none, some}
 use lib.Dec.{eqb, leb, ltb}
@@ -13,20 +13,20 @@ use lib.ListN.{length, getD, take, drop, length-drop, length-take}
 use lib.Seq.{drop-cons, length-take-le}
 use Rattle.rules.specs.declared.Refusal.{Refusal}
 use Rattle.rules.specs.Word.{idOf, headerOf, undefined}
-use Rattle.rules.specs.Table.{Row, rowOf, isSetting}
+use Rattle.rules.specs.Table.{Row, rowOf, isSetting, isBegin, isBase}
 use Rattle.rules.specs.Command.{payload, restSize, commandSize}
-use Rattle.rules.specs.Values.{refusal, faults}
+use Rattle.rules.specs.Values.{refusal, valueFaults, faults}
 use Rattle.rules.specs.Decode.{Decoded, bad, good, firstFault, unknown, decodeRow, decode}
 use Rattle.rules.proofs.Numbers.{faults-proper}
 use Rattle.table.specs.declared.Group.{Group}
 use Rattle.command.specs.declared.Decoded.the-variants.{Command}
 use Rattle.table.specs.Ids.{ofRow, isGroup, groupId}
-use Rattle.table.specs.Tables.{more, timerRow, clipRow, rowNumber, rowAt, rowMasks}
-use Rattle.command.specs.Faults.{firstRefusal, found, own}
+use Rattle.table.specs.Tables.{more, beginRow, rowNumber, rowTable, rowAt, rowMasks}
+use Rattle.command.specs.Faults.{firstRefusal, found, own, outside}
 use Rattle.command.specs.Faults.{none as noFault}
-use Rattle.command.specs.View.{groupAt, sizeAt, refusedAt, view, decodedAt, KnownAt}
-use Rattle.table.proofs.Tables.{Known, ruled, known, known-row, unknown-row}
-use Rattle.command.proofs.FirstFault.{first-fault, first-near, single-fault}
+use Rattle.command.specs.View.{groupAt, sizeAt, refusedAt, singleOf, groupOf, view, decodedAt, KnownAt}
+use Rattle.table.proofs.Tables.{Known, ruled, known, known-row, unknown-row, row-at}
+use Rattle.command.proofs.FirstFault.{first-fault, first-near, faulty-is, single-fault}
 
 not-found : (f : Refusal) → found f ≡ true → f .number ≡ 0 → ⊥
 not-found f e z = let y : _≡_ {A = Bool} false true = ap (λ (n : ℕ). not (eqb n 0)) (sym z) ∙ e in let x : _≡_ {A = ℕ} 0 1 = cc in omega arith
@@ -40,6 +40,10 @@ group-words l at h =
     ap (take 3) (drop-cons l (suc at) 0 (omega arith) ∙ ap (λ (x : List ℕ). getD l (suc at) 0 ∷ x)
     (drop-cons l (suc (suc at)) 0 (omega arith) ∙ ap (λ (x : List ℕ). getD l (suc (suc at)) 0 ∷ x) (drop-cons l (suc (suc (suc at))) 0 (omega arith))))
     ∙ rw (add-one, add-two, add-three)
+
+or-true : (b : Bool) → b || true ≡ true
+or-true true = refl
+or-true false = refl
 
 -- a command with rules on its values has four words, so one of one word is no load
 no-load : (id : ℕ) → ruled id ≡ false → id ≡ 0x40 → ⊥
@@ -83,6 +87,15 @@ module _ (l : List ℕ) (at id : ℕ) (ei : id ≡ idOf (getD l at 0)) (small : 
       let k = by-group (rowOf id) refl g in
       let n : length (rowAt id .more) ≡ 3 = k .length-more ∙ ap (λ (b : Bool). cond b 3 0) g in
       size-known k ∙ rw (n, group-words l at f, k .own-id) (omega arith)
+
+  -- a group has its own words at least
+  pub size-least : groupId id ≡ true → 4 ≤ sizeAt l at
+  unfolding groupId
+  size-least g =
+      let k = by-group (rowOf id) refl g in
+      let n : length (rowAt id .more) ≡ 3 = k .length-more ∙ ap (λ (b : Bool). cond b 3 0) g in
+      let e : sizeAt l at ≡ suc (length (rowAt id .more) + payload (rowAt id .id) h (take (length (rowAt id .more)) ws)) = size-known k in
+      omega (arith, e, n)
 
   by-single : (o : Option Row) → rowOf id ≡ o → groupId id ≡ false → sizeAt l at ≡ 1
   unfolding commandSize payload
@@ -160,14 +173,30 @@ module _ (l : List ℕ) (at id : ℕ) (ei : id ≡ idOf (getD l at 0)) (small : 
             no-fault ∙ rw (lt-ltb (length ws) (restSize (rowAt id) h ws) (omega (arith, length-drop (suc at) l)), add-zero at)
 
         pub decoded-command : sizeAt l at ≤ length l - at
-            → decodedAt l at ≡ Command (record { words = sizeAt l at; setting = isSetting (rowAt id .kind); row = rowNumber id })
+            → decodedAt l at ≡ Command (record { words = sizeAt l at; setting = isSetting (rowAt id .kind); begin = isBegin (rowAt id .kind); base = isBase id })
         decoded-command enough =
             let n : ℕ = restSize (rowAt id) h ws in
             let e : sizeAt l at ≡ suc n = size-known k in
             let o = own-length (groupId id) (k .length-more) in
             let f : n ≤ length ws = omega (arith, length-drop (suc at) l) in
             no-fault ∙ rw (le-ltb (length ws) n f)
-            (ap₂ (λ (m i : ℕ). Command (record { words = m; setting = isSetting (rowAt id .kind); row = rowNumber i })) (ap suc (length-take-le n ws f) ∙ sym e) (k .own-id))
+            (ap₂ (λ (m i : ℕ). Command (record { words = m; setting = isSetting (rowAt id .kind); begin = isBegin (rowAt id .kind); base = isBase i }))
+            (ap suc (length-take-le n ws f) ∙ sym e) (k .own-id))
+
+-- ---- which of the two a command is, by the table lent and the test on its id
+
+module _ (rows l : List ℕ) (at id : ℕ) (lent : rows ≡ rowTable) (inside : at < length l) (ei : id ≡ idOf (getD l at 0)) (small : id < 256) where
+  pub at-unknown : 16 ≤ getD rows id 0 → decodedAt l at ≡ refusedAt (unknown id) at
+  at-unknown n = decoded-unknown l at id ei small (omega (arith, row-at id small rows lent))
+
+  module _ (n : getD rows id 0 < 16) where
+    pub at-known : KnownAt l at id (getD rows id 0)
+    at-known = record { inside = inside; id-is = ei; row-is = row-at id small rows lent; known = n }
+
+    pub at-kind : (b : Bool) → (leb 0x40 id || eqb (getD rows id 0) beginRow) ≡ b → groupId id ≡ b
+    at-kind b e =
+        let er = row-at id small rows lent in
+        known id small (omega (arith, er)) .group ∙ ap (λ (m : ℕ). leb 0x40 id || eqb m beginRow) (sym er) ∙ e
 
 -- ---- a command of one word
 
@@ -189,11 +218,12 @@ module _ (l : List ℕ) (at id row : ℕ) (a : KnownAt l at id row) (small : id 
         let six : firstAt l at id (a .id-is) small k₁ fits-one ≡ refusal 6 0 = by-bit ∙ ap (λ (x : Bool). cond x (refusal 6 0) noFault) t in
         decoded-fault l at id (a .id-is) small k₁ fits-one (ap found six) ∙ rw (six, add-zero at)
 
-    pub decoded-single : b ≡ false → decodedAt l at ≡ Command (record { words = 1; setting = leb timerRow row; row = row })
+    pub decoded-single : b ≡ false → decodedAt l at ≡ singleOf row
     decoded-single t =
         let one = size-single l at id (a .id-is) small single in
+        let begin : isBegin (rowAt id .kind) ≡ false = rw single at (k₁ .apart) in
         decoded-command l at id (a .id-is) small k₁ fits-one (ap found (by-bit ∙ ap (λ (x : Bool). cond x (refusal 6 0) noFault) t)) (omega (arith, a .inside))
-        ∙ rw (one, k₁ .setting-row, single, a .row-is)
+        ∙ rw (one, begin, k₁ .base, k₁ .setting-row, single, a .row-is)
 
 -- ---- a command of four
 
@@ -213,26 +243,45 @@ module _ (l : List ℕ) (at id row : ℕ) (a : KnownAt l at id row) (small : id 
     unfolding firstAt
     first-is = ap (λ (x : Group). firstRefusal (faults (rowAt id) (x .header) (own (rowAt id) x))) eg
 
-    module _ (b : Bool) (eb : b ≡ found (firstRefusal (faults (rowAt id) (g .header) (own (rowAt id) g)))) where
-      -- 6 to 8
-      pub group-fault : b ≡ true → (f : Refusal) → f ≡ firstRefusal (faults (rowAt id) (g .header) (own (rowAt id) g)) → decodedAt l at ≡ refusedAt (f .number) (at + f .word)
-      group-fault t f ef =
-          decoded-fault l at id (a .id-is) small k₄ fits-four (ap found (sym first-is) ∙ sym eb ∙ t)
-          ∙ ap (λ (x : Refusal). refusedAt (x .number) (at + x .word)) (sym (ef ∙ first-is))
+    -- 6 to 8
+    pub group-fault : found (firstRefusal (faults (rowAt id) (g .header) (own (rowAt id) g))) ≡ true
+        → (f : Refusal) → f ≡ firstRefusal (faults (rowAt id) (g .header) (own (rowAt id) g)) → decodedAt l at ≡ refusedAt (f .number) (at + f .word)
+    group-fault t f ef =
+        decoded-fault l at id (a .id-is) small k₄ fits-four (ap found (sym first-is) ∙ t)
+        ∙ ap (λ (x : Refusal). refusedAt (x .number) (at + x .word)) (sym (ef ∙ first-is))
 
-      module _ (t : b ≡ false) (n : ℕ) (en : n ≡ payload id (g .header) (more g)) where
-        clear : found (firstAt l at id (a .id-is) small k₄ fits-four) ≡ false
-        clear = ap found (sym first-is) ∙ sym eb ∙ t
+    -- the two tests of the code
+    tests : {b v : Bool} → b ≡ outside g (rowMasks row) → v ≡ found (firstRefusal (valueFaults id (g .header) (more g)))
+        → b || v ≡ found (firstRefusal (faults (rowAt id) (g .header) (own (rowAt id) g)))
+    tests eb ev = rw (eb, ev, a .row-is) (faulty-is id g k₄)
 
-        size-is : sizeAt l at ≡ 4 + n
-        size-is =
-            size-group l at id (a .id-is) small group (omega (arith, a .inside))
-            ∙ ap (λ (x : ℕ). 4 + x) (sym (en ∙ ap (λ (x : Group). payload id (x .header) (more x)) eg))
+    pub undefined-fault : {b : Bool} → b ≡ outside g (rowMasks row) → b ≡ true
+        → (f : Refusal) → f ≡ firstRefusal (faults (rowAt id) (g .header) (own (rowAt id) g)) → decodedAt l at ≡ refusedAt (f .number) (at + f .word)
+    undefined-fault eb t = group-fault (sym (tests eb refl) ∙ rw t)
 
-        -- 9
-        pub group-short : length l - at < 4 + n → decodedAt l at ≡ refusedAt 9 at
-        group-short c = decoded-short l at id (a .id-is) small k₄ fits-four clear (omega (arith, size-is))
+    pub value-fault : {v : Bool} → v ≡ found (firstRefusal (valueFaults id (g .header) (more g))) → v ≡ true
+        → (f : Refusal) → f ≡ firstRefusal (faults (rowAt id) (g .header) (own (rowAt id) g)) → decodedAt l at ≡ refusedAt (f .number) (at + f .word)
+    value-fault ev t = group-fault (sym (tests refl ev) ∙ rw t (or-true (outside g (rowMasks row))))
 
-        pub group-done : 4 + n ≤ length l - at → decodedAt l at ≡ Command (record { words = 4 + n; setting = leb clipRow row; row = row })
-        group-done c =
-            decoded-command l at id (a .id-is) small k₄ fits-four clear (omega (arith, size-is)) ∙ rw (size-is, k₄ .setting-row, group, a .row-is)
+    pub group-clear : {b v : Bool} → b ≡ outside g (rowMasks row) → b ≡ false → v ≡ found (firstRefusal (valueFaults id (g .header) (more g))) → v ≡ false
+        → found (firstRefusal (faults (rowAt id) (g .header) (own (rowAt id) g))) ≡ false
+    group-clear eb t ev u = sym (tests eb ev) ∙ rw (t, u)
+
+    module _ (none : found (firstRefusal (faults (rowAt id) (g .header) (own (rowAt id) g))) ≡ false)
+        (n : ℕ) (en : n ≡ payload id (g .header) (more g)) where
+      clear : found (firstAt l at id (a .id-is) small k₄ fits-four) ≡ false
+      clear = ap found (sym first-is) ∙ none
+
+      size-is : sizeAt l at ≡ 4 + n
+      size-is =
+          size-group l at id (a .id-is) small group (omega (arith, a .inside))
+          ∙ ap (λ (x : ℕ). 4 + x) (sym (en ∙ ap (λ (x : Group). payload id (x .header) (more x)) eg))
+
+      -- 9
+      pub group-short : length l - at < 4 + n → decodedAt l at ≡ refusedAt 9 at
+      group-short c = decoded-short l at id (a .id-is) small k₄ fits-four clear (omega (arith, size-is))
+
+      pub group-done : 4 + n ≤ length l - at → decodedAt l at ≡ groupOf (4 + n) row
+      group-done c =
+          let base : isBase id ≡ false = rw group at (k₄ .apart) in
+          decoded-command l at id (a .id-is) small k₄ fits-four clear (omega (arith, size-is)) ∙ rw (size-is, base, k₄ .begins, k₄ .setting-row, group, a .row-is)

@@ -1,11 +1,11 @@
 -- The first fault of a command, from the masks of its row.
-use Prim.Native.Nat.{ℕ, zero, suc, _-_, _/_, _%_, _^_, _≤_}
-use native.Mathlib.Nat.{pow-suc}
+use Prim.Native.Nat.{ℕ, zero, suc, _-_, _/_, _%_, _^_, _≤_, _<_}
+use native.Mathlib.Nat.{pow-suc, zero-add}
 use native.Mathlib.Omega.{arith}
 use mathlib.Core.Path.{_≡_, refl, ap, sym, _∙_}
-use mathlib.Core.Bool.{Bool, true, false, cond, _||_}
+use mathlib.Core.Bool.{Bool, true, false, cond, not, _&&_, _||_}
 use mathlib.Core.List.{List, [], _∷_}
-use lib.Dec.{eqb, ltb}
+use lib.Dec.{eqb, leb, ltb}
 use lib.Pow.{pow-pos}
 use borrow.Author.Tests.{le-leb}
 use lib.ListN.{length, take}
@@ -14,13 +14,14 @@ use Rattle.rules.specs.Word.{lowest, undefined}
 use Rattle.rules.specs.Table.{Row}
 use Rattle.rules.specs.Values.{refusal, Fault, undefinedFaults, valueFaults, faults}
 use Rattle.rules.specs.Decode.{Decoded, bad, firstFault}
+use Rattle.rules.proofs.Bools.{and-left, and-right}
 use Rattle.rules.proofs.Numbers.{AllProper}
 use Rattle.table.specs.declared.Group.{Group}
 use Rattle.table.specs.Ids.{groupId}
 use Rattle.table.specs.Tables.{rowNumber, rowAt, maskOf, rowMasks}
 use Rattle.table.specs.Tables.{more}
-use Rattle.command.specs.Faults.{firstRefusal, found, none, four, own}
-use Rattle.table.proofs.Tables.{Known, ruled}
+use Rattle.command.specs.Faults.{firstRefusal, found, none, four, own, outside}
+use Rattle.table.proofs.Tables.{every-from, same, same-true, Known, ruled}
 
 -- every bit is defined under the mask of all bits
 ones : (k w : ℕ) → lowest k w (2 ^ k - 1) ≡ k
@@ -47,6 +48,32 @@ no-case false false false false w x y z e f = refl
 unruled-values : (id h : ℕ) (ws : List ℕ) → ruled id ≡ false → valueFaults id h ws ≡ []
 unfolding valueFaults
 unruled-values id h ws e = no-case (eqb id 0x40) (eqb id 0x48) (eqb id 0x84) (eqb id 0x88) _ _ _ _ [] e
+
+-- "3, 4, 6 and 7 are illegal", and of the others two codes, 0 and 5, have no third and fourth words: as the code asks it
+codeTest : ℕ → Bool
+codeTest code =
+    let illegal = (eqb code 3 || eqb code 4) || leb 6 code in
+    same (ltb 2 code && not (eqb code 5)) illegal && (illegal || same (not (eqb code 1) && not (eqb code 2)) (eqb code 0 || eqb code 5))
+
+code-test : (code : ℕ) → code < 8 → codeTest code ≡ true
+unfolding codeTest
+code-test code h = ap codeTest (sym (zero-add code)) ∙ every-from 8 0 codeTest refl code h
+
+-- an illegal code is refused in the first word, so that of it the third and fourth words do not matter
+legal-bare : (i b′ b s t f : Bool) (next : Refusal) → (i || same b′ b) ≡ true → four 7 i s (b′ && t) (b′ && f) next ≡ four 7 i s (b && t) (b && f) next
+legal-bare true b′ b s t f next e = refl
+legal-bare false b′ b s t f next e = ap (λ (x : Bool). four 7 false s (x && t) (x && f) next) (same-true b′ b e)
+
+pub load-first : (code : ℕ) → code < 8 → (s t f : Bool) (next : Refusal)
+    → four 7 (ltb 2 code && not (eqb code 5)) s ((not (eqb code 1) && not (eqb code 2)) && t) ((not (eqb code 1) && not (eqb code 2)) && f) next
+    ≡ four 7 ((eqb code 3 || eqb code 4) || leb 6 code) s ((eqb code 0 || eqb code 5) && t) ((eqb code 0 || eqb code 5) && f) next
+unfolding codeTest
+load-first code h s t f next =
+    let b′ : Bool = not (eqb code 1) && not (eqb code 2) in
+    let i : Bool = (eqb code 3 || eqb code 4) || leb 6 code in
+    let first : (ltb 2 code && not (eqb code 5)) ≡ i = same-true (ltb 2 code && not (eqb code 5)) i (and-left (same (ltb 2 code && not (eqb code 5)) i) _ (code-test code h)) in
+    ap (λ (x : Bool). four 7 x s (b′ && t) (b′ && f) next) first
+    ∙ legal-bare i b′ (eqb code 0 || eqb code 5) s t f next (and-right (same (ltb 2 code && not (eqb code 5)) i) _ (code-test code h))
 
 -- the faults of a command with one word, and with four
 module _ (r : Row) (h a b c : ℕ) (m₀ m₁ m₂ m₃ : ℕ) where
@@ -98,12 +125,13 @@ found-four false false false true next = refl
 found-four false false false false next = refl
 
 -- whether there is one
-pub faulty-is : (id : ℕ) (g m : Group) → Known id → m ≡ rowMasks (rowNumber id)
-    → ((undefined (g .header) (m .header) || undefined (g .second) (m .second)) || (undefined (g .third) (m .third) || undefined (g .fourth) (m .fourth)))
-    || found (firstRefusal (valueFaults id (g .header) (more g))) ≡ found (firstRefusal (faults (rowAt id) (g .header) (own (rowAt id) g)))
-faulty-is id g m k e =
+pub faulty-is : (id : ℕ) (g : Group) → Known id
+    → outside g (rowMasks (rowNumber id)) || found (firstRefusal (valueFaults id (g .header) (more g)))
+    ≡ found (firstRefusal (faults (rowAt id) (g .header) (own (rowAt id) g)))
+faulty-is id g k =
+    let m : Group = rowMasks (rowNumber id) in
     found-four (undefined (g .header) (m .header)) (undefined (g .second) (m .second)) (undefined (g .third) (m .third)) (undefined (g .fourth) (m .fourth))
-    (firstRefusal (valueFaults id (g .header) (more g))) ∙ ap found (fault-is id g m k e)
+    (firstRefusal (valueFaults id (g .header) (more g))) ∙ ap found (fault-is id g m k refl)
 
 pub found-any : (a b c d e f : Bool) → ((a || b) || (c || d)) || (e || f) ≡ found (four 7 a b c d (cond e (refusal 8 0) (cond f (refusal 8 0) none)))
 found-any true _ _ _ _ _ = refl

@@ -1,10 +1,11 @@
 -- The first fault of a command, as a refusal; number 0 where there is none.
 use Prim.Native.Nat.{ℕ}
-use mathlib.Core.Bool.{Bool, cond, not}
+use mathlib.Core.Bool.{Bool, cond, not, _||_}
 use mathlib.Core.List.{List, [], _∷_}
 use lib.Dec.{eqb}
 use lib.ListN.{length, take}
 use Rattle.rules.specs.declared.Refusal.{Refusal}
+use Rattle.rules.specs.Word.{undefined}
 use Rattle.rules.specs.Table.{Row}
 use Rattle.rules.specs.Values.{refusal, Fault}
 use Rattle.table.specs.declared.Group.{Group}
@@ -33,3 +34,9 @@ firstOf f = four 7 (f .first) (f .second) (f .third) (f .fourth) (cond (f .clash
 -- the words after the first that a row's command has of a group
 abbrev pub own : Row → Group → List ℕ
 own r g = take (length (r .more)) (more g)
+
+-- a word of a group has a bit outside its mask
+abbrev pub outside : Group → Group → Bool
+outside g m =
+    (undefined (g .header) (m .header) || undefined (g .second) (m .second))
+    || (undefined (g .third) (m .third) || undefined (g .fourth) (m .fourth))

@@ -1,19 +1,22 @@
 -- The command at a position of a list, as the code has it.
 use Prim.Native.Nat.{ℕ, suc, _+_, _≤_, _<_}
 use mathlib.Core.Path.{_≡_}
-use mathlib.Core.Bool.{true}
+use mathlib.Core.Bool.{true, false}
 use mathlib.Core.List.{List}
+use lib.Dec.{eqb, leb}
 use lib.ListN.{length, getD, drop}
 use Rattle.rules.specs.Word.{idOf, headerOf}
-use Rattle.rules.specs.Table.{isSetting}
+use Rattle.rules.specs.Table.{isSetting, isBegin, isBase}
 use Rattle.rules.specs.Command.{commandSize}
+use Rattle.rules.specs.Command.{Command as RulesCommand}
 use Rattle.rules.specs.Values.{refusal}
 use Rattle.rules.specs.Decode.{Decoded, bad, good, decode}
 use Rattle.table.specs.declared.Group.{Group}
+use Rattle.command.specs.declared.Command.{Command as Kept}
 use Rattle.command.specs.declared.Decoded.{Decoded as Decoded′}
 use Rattle.command.specs.declared.Decoded.the-variants.{Command, Refused}
 use Rattle.table.specs.Ids.{groupId}
-use Rattle.table.specs.Tables.{rowNumber}
+use Rattle.table.specs.Tables.{baseRow, timerRow, beginRow, clipRow, rowNumber}
 
 abbrev pub groupAt : List ℕ → ℕ → Group
 groupAt l at = record { header = headerOf (getD l at 0); second = getD l (at + 1) 0; third = getD l (at + 2) 0; fourth = getD l (at + 3) 0 }
@@ -30,10 +33,21 @@ pub record OwnAt (l : List ℕ) (at : ℕ) : Type 0 where
 abbrev pub refusedAt : ℕ → ℕ → Decoded′
 refusedAt n p = Refused (refusal n p)
 
--- a refusal stands at its word of the list; of a command its words, its kind and its row are kept
+-- of a command its words and its kind are kept
+abbrev pub kept : RulesCommand → Kept
+kept c = record { words = suc (length (c .rest)); setting = isSetting (c .row .kind); begin = isBegin (c .row .kind); base = isBase (c .row .id) }
+
+-- a refusal stands at its word of the list
 abbrev pub view : ℕ → Decoded → Decoded′
 view at (bad f) = refusedAt (f .number) (at + f .word)
-view at (good c) = Command (record { words = suc (length (c .rest)); setting = isSetting (c .row .kind); row = rowNumber (c .row .id) })
+view at (good c) = Command (kept c)
+
+-- the same by the number of its row, of one word and of four
+abbrev pub singleOf : ℕ → Decoded′
+singleOf row = Command (record { words = 1; setting = leb timerRow row; begin = false; base = eqb row baseRow })
+
+abbrev pub groupOf : ℕ → ℕ → Decoded′
+groupOf n row = Command (record { words = n; setting = leb clipRow row; begin = eqb row beginRow; base = false })
 
 -- refusals 3 to 9 of the command at a position, or the command
 unfoldable pub decodedAt : List ℕ → ℕ → Decoded′

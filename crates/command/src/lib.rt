@@ -3,6 +3,7 @@ use rules::Refusal;
 use table::Group;
 ghost use mathlib.Core.Path.{_≡_};
 ghost use mathlib.Core.Bool.{cond, true, false};
+ghost use mathlib.Core.List.{[], _∷_};
 ghost use Prim.Native.Nat.{_+_, _<_, _≤_};
 ghost use lib.ListN.{length};
 ghost use Rattle.rules.specs.Word.{undefined};
@@ -10,9 +11,9 @@ ghost use Rattle.rules.specs.Command.{payload};
 ghost use Rattle.rules.specs.Values.{refusal, loadFaults, primitiveFaults, clipFaults, rasterFaults, valueFaults, pageLimit, faults};
 ghost use Rattle.rules.specs.Decode.{unknown};
 ghost use Rattle.table.specs.Ids.{groupId};
-ghost use Rattle.table.specs.Tables.{rowNumber, rowTable, rowAt, more};
-ghost use Rattle.command.specs.Faults.{firstRefusal, found, none, four, firstOf, own};
-ghost use Rattle.command.specs.View.{groupAt, sizeAt, OwnAt, decodedAt, refusedAt, KnownAt};
+ghost use Rattle.table.specs.Tables.{rowNumber, rowAt, rowMasks, more};
+ghost use Rattle.command.specs.Faults.{firstRefusal, found, none, four, firstOf, own, outside};
+ghost use Rattle.command.specs.View.{groupAt, sizeAt, OwnAt, decodedAt, refusedAt, singleOf, groupOf, KnownAt};
 
 // The rules on values that a command breaks: an illegal value in each of its words, and two clashes.
 pub struct Faults {
@@ -24,11 +25,12 @@ pub struct Faults {
     pub other_clash: bool,
 }
 
-// A decoded command: its words with payload, whether it is a setting, and its row.
+// A decoded command: its words with payload, and whether it is a setting, a BEGIN, a surface base.
 pub struct Command {
     pub words: usize,
     pub setting: bool,
-    pub row: u8,
+    pub begin: bool,
+    pub base: bool,
 }
 
 // A command, or its refusal.
@@ -53,7 +55,7 @@ pub fn group_at(list: &[u32], at: usize) -> Group
 }
 
 // The words behind a command's own, as these say.
-fn payload(id: u8, g: Group) -> usize
+pub fn payload(id: u8, g: Group) -> usize
     ensures { λ r. ⌜ r ≡ payload id (g .header) (more g) ⌝ }
 {
     if id == 0x40 {
@@ -77,7 +79,7 @@ pub fn command_size(list: &[u32], at: usize) -> usize
 // ---- the rules on a command's words
 
 // A bit is set in the word that the mask does not define.
-fn undefined(word: u32, mask: u32) -> bool
+pub fn undefined(word: u32, mask: u32) -> bool
     ensures { λ r. ⌜ r ≡ undefined word mask ⌝ }
 {
     word & !mask != 0
@@ -89,9 +91,9 @@ fn load_faults(g: Group) -> Faults
     let code = (g.header >> 20) % 8;
     let floats = (g.header >> 23) % 2;
     let planes = (g.header >> 10) % 512 + g.header % 512;
-    let bare = (code == 0) | (code == 5);
+    let bare = (code != 1) & (code != 2); // 0 or 5: other codes are illegal, in the first word
     Faults {
-        first: (code == 3) | (code == 4) | (6 <= code),
+        first: (2 < code) & (code != 5),
         second: (code != 2) & (g.second != 0),
         third: bare & (g.third != 0),
         fourth: bare & (g.fourth != 0),
@@ -158,10 +160,17 @@ fn any(f: Faults) -> bool
     ((f.first | f.second) | (f.third | f.fourth)) | (f.clash | f.other_clash)
 }
 
-// A value is illegal or clashes; which one is asked only on refusal.
-fn bad_values(id: u8, g: Group) -> bool
-    ensures { λ r. ⌜ r ≡ found (firstRefusal (valueFaults id (g .header) (more g))) ⌝ }
+// A value is illegal or clashes; which one is asked only on refusal. The words come one by one: so it is inlined in both
+// of its callers, the decoding of lists and of pairs.
+pub fn bad_values(id: u8, header: u32, second: u32, third: u32, fourth: u32) -> bool
+    ensures { λ r. ⌜ r ≡ found (firstRefusal (valueFaults id header (second ∷ third ∷ fourth ∷ []))) ⌝ }
 {
+    let g = Group {
+        header,
+        second,
+        third,
+        fourth,
+    };
     match id {
         0x40 => any(load_faults(g)),
         0x48 => any(primitive_faults(g)),
@@ -228,7 +237,7 @@ fn value_fault(id: u8, g: Group) -> Refusal
 }
 
 // Refusals 6 to 8 of a command of four words.
-fn fault(row: u8, id: u8, g: Group) -> Refusal
+pub fn fault(row: u8, id: u8, g: Group) -> Refusal
     requires { ⌜ (row ≡ rowNumber id) × (row < 16) ⌝ }
     ensures { λ r. ⌜ r ≡ firstRefusal (faults (rowAt id) (g .header) (own (rowAt id) g)) ⌝ }
 {
@@ -243,30 +252,62 @@ fn fault(row: u8, id: u8, g: Group) -> Refusal
     )
 }
 
-// The same, whether there is one: all that an accepted command is asked.
-fn faulty(row: u8, id: u8, g: Group) -> bool
-    requires { ⌜ (row ≡ rowNumber id) × (row < 16) ⌝ }
-    ensures { λ r. ⌜ r ≡ found (firstRefusal (faults (rowAt id) (g .header) (own (rowAt id) g))) ⌝ }
+// A word of a group has an undefined bit: with `bad_values` all that an accepted command is asked.
+pub fn undefined_bits(row: u8, g: Group) -> bool
+    requires { ⌜ row < 16 ⌝ }
+    ensures { λ r. ⌜ r ≡ outside g (rowMasks row) ⌝ }
 {
     let m = table::masks_of(row);
     let a = undefined(g.header, m.header);
     let b = undefined(g.second, m.second);
     let c = undefined(g.third, m.third);
     let d = undefined(g.fourth, m.fourth);
-    ((a | b) | (c | d)) | bad_values(id, g)
+    (a | b) | (c | d)
 }
 
 // ---- decoding
 
+// An id that the table does not have: refusal 3 or 4.
+pub fn unknown(id: u8) -> u32
+    ensures { λ r. ⌜ r ≡ unknown id ⌝ }
+{
+    if (id == 3) | (id == 4) { 4 } else { 3 }
+}
+
 // A refusal of the command at a position, with its word in the list.
-fn refused(number: u32, word: usize) -> Decoded
+pub fn refused(number: u32, word: usize) -> Decoded
     ensures { λ r. ⌜ r ≡ refusedAt number word ⌝ }
 {
     Decoded::Refused(Refusal { number, word })
 }
 
+// A command of one word, by its row. Only one of these is a surface base, and only a group a BEGIN: said here, it spares
+// the walk a test a command.
+pub fn single_command(row: u8) -> Decoded
+    ensures { λ r. ⌜ r ≡ singleOf row ⌝ }
+{
+    Decoded::Command(Command {
+        words: 1,
+        setting: table::TIMER <= row,
+        begin: false,
+        base: row == table::SURFACE_BASE,
+    })
+}
+
+// A command of four words with its payload, by its row.
+pub fn group_command(words: usize, row: u8) -> Decoded
+    ensures { λ r. ⌜ r ≡ groupOf words row ⌝ }
+{
+    Decoded::Command(Command {
+        words,
+        setting: table::WINDOW_CLIP <= row,
+        begin: row == table::BEGIN,
+        base: false,
+    })
+}
+
 // A command of one word: refusal 6.
-fn decode_single(list: &[u32], at: usize, id: u8, row: u8) -> Decoded
+pub fn decode_single(list: &[u32], at: usize, id: u8, row: u8) -> Decoded
     requires { ⌜ KnownAt (now list) at id row × (groupId id ≡ false) ⌝ }
     ensures { λ r. ⌜ r ≡ decodedAt (now (list .entry)) at ⌝ }
 {
@@ -274,15 +315,11 @@ fn decode_single(list: &[u32], at: usize, id: u8, row: u8) -> Decoded
     if undefined(words::header_of(words::fetch(list, at)), m.header) {
         return refused(6, at);
     }
-    Decoded::Command(Command {
-        words: 1,
-        setting: table::TIMER <= row,
-        row,
-    })
+    single_command(row)
 }
 
 // A command of four words and its payload: refusals 5 to 9. Only where there is payload is the list's end looked for again.
-fn decode_group(list: &[u32], at: usize, id: u8, row: u8) -> Decoded
+pub fn decode_group(list: &[u32], at: usize, id: u8, row: u8) -> Decoded
     requires { ⌜ KnownAt (now list) at id row × (groupId id ≡ true) ⌝ }
     ensures { λ r. ⌜ r ≡ decodedAt (now (list .entry)) at ⌝ }
 {
@@ -290,7 +327,11 @@ fn decode_group(list: &[u32], at: usize, id: u8, row: u8) -> Decoded
         return refused(5, at);
     }
     let g = group_at(list, at);
-    if faulty(row, id, g) {
+    if undefined_bits(row, g) {
+        let f = fault(row, id, g);
+        return refused(f.number, at + f.word);
+    }
+    if bad_values(id, g.header, g.second, g.third, g.fourth) {
         let f = fault(row, id, g);
         return refused(f.number, at + f.word);
     }
@@ -299,37 +340,7 @@ fn decode_group(list: &[u32], at: usize, id: u8, row: u8) -> Decoded
         if list.len() - at < 4 + more {
             return refused(9, at);
         }
-        return Decoded::Command(Command {
-            words: 4 + more,
-            setting: table::WINDOW_CLIP <= row,
-            row,
-        });
+        return group_command(4 + more, row);
     }
-    Decoded::Command(Command {
-        words: 4,
-        setting: table::WINDOW_CLIP <= row,
-        row,
-    })
-}
-
-fn unknown(id: u8) -> u32
-    ensures { λ r. ⌜ r ≡ unknown id ⌝ }
-{
-    if (id == 3) | (id == 4) { 4 } else { 3 }
-}
-
-// The command at a position, or its refusal: numbers 3 to 9. Each known id from 40 on has a group.
-pub fn decode(rows: &[u8; 256], list: &[u32], at: usize) -> Decoded
-    requires { ⌜ (at < length (now list)) × (now rows ≡ rowTable) ⌝ }
-    ensures { λ r. ⌜ r ≡ decodedAt (now (list .entry)) at ⌝ }
-{
-    let id = words::id_of(words::fetch(list, at));
-    let row = rows[id as usize];
-    if table::UNKNOWN <= row {
-        return refused(unknown(id), at);
-    }
-    if (0x40 <= id) | (row == table::BEGIN) {
-        return decode_group(list, at, id, row);
-    }
-    decode_single(list, at, id, row)
+    group_command(4, row)
 }

@@ -1,21 +1,23 @@
 -- The normaliser's answer, by what the first pass found and the form's length.
 use Prim.Native.Nat.{ℕ, _≤_}
 use native.Mathlib.Omega.{arith}
-use mathlib.Core.Path.{_≡_, ap, sym, _∙_}
+use mathlib.Core.Path.{_≡_, refl}
 use mathlib.Core.Bool.{true, false}
 use mathlib.Core.List.{List}
 use lib.Dec.{ltb}
-use borrow.Author.Tests.{ltb-false, le-ltb}
+use borrow.Author.Tests.{ltb-true, ltb-false, le-ltb}
 use lib.ListN.{length}
 use lib.Seq.{sets}
 use Rattle.rules.specs.declared.Refusal.{Refusal}
 use Rattle.rules.specs.Values.{refusal}
-use Rattle.rules.specs.Walk.{Parsed, refused, accepted, parse}
-use Rattle.rules.specs.Answer.{refuse, normaliseParsed, normalising, commandsOf, normalForm}
+use Rattle.rules.specs.Command.{Command, wordsAll}
+use Rattle.rules.specs.Walk.{accepted, parse}
+use Rattle.rules.specs.Form.{form}
+use Rattle.rules.specs.Answer.{refuse, normalising, commandsOf, normalForm}
 use Rattle.rules.proofs.Form.{form-fits}
 use Rattle.list.specs.declared.Walked.the-variants as walked
 use Rattle.list.specs.View.{walkedOf}
-use Rattle.list.proofs.Reading.{Counts, counts, put-front}
+use Rattle.list.proofs.Reading.{answer-refused, answer-short, answer-done}
 
 -- a form fits where its list does
 pub form-room : (image l out : List ℕ) → parse image l ≡ accepted (commandsOf (parse image l)) → length l ≤ length out
@@ -23,24 +25,20 @@ pub form-room : (image l out : List ℕ) → parse image l ≡ accepted (command
 form-room image l out e h = le-ltb (length out) (length (normalForm image l)) (omega (arith, form-fits image l (commandsOf (parse image l)) e))
 
 module _ (l image buffer : List ℕ) where
-  by-refused : (x : Parsed) (f : Refusal) → walkedOf x ≡ walked.Refused f → refuse f image buffer ≡ normaliseParsed l image buffer x
-  by-refused (refused g) f e = let eg : f ≡ g = cc in ap (λ (x : Refusal). refuse x image buffer) eg
-  by-refused (accepted cs) f e = let z : _≡_ {A = ℕ} 0 1 = cc in absurd (omega arith)
+  abbrev made : List Command → List ℕ
+  made cs = wordsAll (form image cs)
 
   -- refusals 1 to 10
   pub normalise-refused : (f : Refusal) → walkedOf (parse image l) ≡ walked.Refused f → refuse f image buffer ≡ normalising l image buffer
   unfolding normalising
-  normalise-refused f e = by-refused (parse image l) f e
+  normalise-refused f e = answer-refused made l image buffer (parse image l) f e
 
   module _ (c k : ℕ) (e : walkedOf (parse image l) ≡ walked.Accepted c k) where
-    n : Counts (parse image l) c k
-    n = counts (parse image l) c k e
-
     -- 11
     pub normalise-short : ltb (length buffer) (length (normalForm image l)) ≡ true
         → refuse (refusal 11 (length l)) image buffer ≡ normalising l image buffer
     unfolding normalising
-    normalise-short h = sym (ap (normaliseParsed l image buffer) (n .is) ∙ rw h)
+    normalise-short h = answer-short made l image buffer (parse image l) c k e (ltb-true (length buffer) (length (normalForm image l)) h)
 
     pub normalise-done : ltb (length buffer) (length (normalForm image l)) ≡ false
         → record {
@@ -50,5 +48,4 @@ module _ (l image buffer : List ℕ) where
         } ≡ normalising l image buffer
     unfolding normalising
     normalise-done h =
-        sym (ap (normaliseParsed l image buffer) (n .is)
-        ∙ rw (h, ← put-front buffer (normalForm image l) (ltb-false (length buffer) (length (normalForm image l)) h), n .commands, n .records-are))
+        answer-done made l image buffer (parse image l) c k e (length (normalForm image l)) refl (ltb-false (length buffer) (length (normalForm image l)) h)

@@ -4,6 +4,7 @@ use words::put;
 ghost use mathlib.Core.Path.{_≡_};
 ghost use lib.Seq.{sets};
 ghost use Rattle.rules.specs.Answer.{reading, normalising};
+ghost use Rattle.rules.specs.Pci.{toPci, fromPci};
 ghost use Rattle.host.specs.Call.{Small, answerWords, callResult};
 
 // The five numbers of an answer, as many as there is room for.
@@ -44,6 +45,36 @@ pub extern "C" fn xp10_normalise(
     ensures { λ r. ⌜ record { verdict = r; image = now (image .entry); buffer = now (out .exit); answer = now (answer .exit) } ≡ callResult (normalising (now (list .entry)) (now (image .entry)) (now (out .entry))) (now (answer .entry)) ⌝ }
 {
     let a = form::normalise(list, image, out);
+    write_answer(a, answer);
+    a.verdict
+}
+
+// The list as PCI writes.
+#[no_mangle]
+pub extern "C" fn xp10_to_pci(
+    list: &[u32],
+    image: &[u32],
+    pairs: &mut [u32],
+    answer: &mut [u32],
+) -> u32
+    ensures { λ r. ⌜ record { verdict = r; image = now (image .entry); buffer = now (pairs .exit); answer = now (answer .exit) } ≡ callResult (toPci (now (list .entry)) (now (image .entry)) (now (pairs .entry))) (now (answer .entry)) ⌝ }
+{
+    let a = pci::to_pci(list, image, pairs);
+    write_answer(a, answer);
+    a.verdict
+}
+
+// PCI writes as the list.
+#[no_mangle]
+pub extern "C" fn xp10_from_pci(
+    pairs: &[u32],
+    image: &[u32],
+    list: &mut [u32],
+    answer: &mut [u32],
+) -> u32
+    ensures { λ r. ⌜ record { verdict = r; image = now (image .entry); buffer = now (list .exit); answer = now (answer .exit) } ≡ callResult (fromPci (now (pairs .entry)) (now (image .entry)) (now (list .entry))) (now (answer .entry)) ⌝ }
+{
+    let a = pci::from_pci(pairs, image, list);
     write_answer(a, answer);
     a.verdict
 }

@@ -6,45 +6,27 @@ use mathlib.Core.Path.{_≡_, refl, ap, ap₂, sym, _∙_}
 use mathlib.Core.Bool.{Bool, true, false, cond, not, _&&_}
 use mathlib.Core.List.{List, [], _∷_}
 use mathlib.Core.Option.{some, none}
-use lib.Dec.{eqb}
 use lib.ListN.{length, getD, drop, length-drop}
 use Rattle.rules.specs.declared.Refusal.{Refusal}
-use Rattle.rules.specs.Table.{Row, isSetting, isBegin}
+use Rattle.rules.specs.Table.{isSetting, isBegin}
 use Rattle.rules.specs.Command.{Command}
 use Rattle.rules.specs.Values.{refusal}
 use Rattle.rules.specs.Decode.{Decoded, bad, good, decode}
 use Rattle.rules.specs.Walk.{State, start, outOfOrder, orderAfter, next, Step, stop, took, inOrder, stepDecoded, step, Parsed, refused, accepted, andThen, onward, walk}
 use Rattle.rules.specs.Records.{records}
-use Rattle.rules.proofs.Parse.{Read, decode-read, step-took}
+use Rattle.rules.proofs.Parse.{decode-read, step-took}
 use Rattle.rules.proofs.Walk.{walk-at, walk-end}
-use Rattle.command.specs.declared.Command.{Command as Command′}
+use Rattle.command.specs.declared.Decoded.{Decoded as Decoded′}
 use Rattle.command.specs.declared.Decoded.the-variants as decoded
-use Rattle.table.specs.Tables.{beginRow, rowNumber}
-use Rattle.command.specs.View.{decodedAt}
+use Rattle.command.specs.View.{kept, decodedAt}
 use Rattle.command.specs.View.{view as viewDecoded}
-use Rattle.table.proofs.Tables.{Known, known-row, row-is}
 use Rattle.list.specs.declared.Cursor.{Cursor}
 use Rattle.list.specs.declared.Step.the-variants.{On, Refused}
 use Rattle.list.specs.declared.Walked.{Walked}
 use Rattle.list.specs.declared.Walked.the-variants as walked
-use Rattle.list.specs.View.{origin, Counted, Inside, after, stateOf, view, stepAt, walkedOf}
+use Rattle.list.specs.View.{origin, Counted, InsideAfter, after, taken, stateOf, view, stepAt, walkedOf}
 
 -- ---- one step
-
--- the decoded command is a command of the rules
-pub record Decodes (l : List ℕ) (at : ℕ) (k : Command′) : Type 0 where
-  pub rule : Command
-  pub decoded : decode (getD l at 0) (drop (suc at) l) ≡ good rule
-  pub is : k ≡ record { words = suc (length (rule .rest)); setting = isSetting (rule .row .kind); row = rowNumber (rule .row .id) }
-
-module _ (l : List ℕ) (at : ℕ) where
-  by-decoded : (x : Decoded) → decode (getD l at 0) (drop (suc at) l) ≡ x → (k : Command′) → viewDecoded at x ≡ decoded.Command k → Decodes l at k
-  by-decoded (bad f) ex k e = let z : _≡_ {A = ℕ} 0 1 = cc in absurd (omega arith)
-  by-decoded (good d) ex k e = record { rule = d; decoded = ex; is = cc }
-
-  pub decodes : (k : Command′) → decodedAt l at ≡ decoded.Command k → Decodes l at k
-  unfolding decodedAt
-  decodes k e = by-decoded (decode (getD l at 0) (drop (suc at) l)) refl k e
 
 module _ (l : List ℕ) (c : Cursor) where
   abbrev w : ℕ
@@ -53,42 +35,28 @@ module _ (l : List ℕ) (c : Cursor) where
   abbrev ws : List ℕ
   ws = drop (suc (c .at)) l
 
-  by-refused : (image : List ℕ) (x : Decoded) (f : Refusal) → viewDecoded (c .at) x ≡ decoded.Refused f → view c (stepDecoded (stateOf image c) x) ≡ Refused f
-  by-refused image (bad g) f e = cc
-  by-refused image (good d) f e = let z : _≡_ {A = ℕ} 0 1 = cc in absurd (omega arith)
+  by-decoded : (image : List ℕ) (x : Decoded) → taken c (viewDecoded (c .at) x) ≡ view c (stepDecoded (stateOf image c) x)
+  unfolding outOfOrder orderAfter
+  by-decoded image (bad f) = refl
+  by-decoded image (good d) =
+      elim (c .flip && not (isBegin (d .row .kind))) as (λ b. cond b (Refused (refusal 10 (c .at))) (On (after c (kept d)))
+      ≡ view c (inOrder (cond b (some 10) none) d (next (stateOf image c) d))) [
+        | true ↦ ap (λ (n : ℕ). Refused (refusal 10 n)) (sym (add-zero (c .at)))
+        | false ↦ refl
+      ]
 
-  -- 3 to 9
-  pub step-refused : (f : Refusal) → decodedAt l (c .at) ≡ decoded.Refused f → (image : List ℕ) → stepAt l image c ≡ Refused f
+  -- a step takes the decoded command
+  pub step-taken : (d : Decoded′) → d ≡ decodedAt l (c .at) → (image : List ℕ) → taken c d ≡ stepAt l image c
   unfolding stepAt step decodedAt
-  step-refused f e image = by-refused image (decode w ws) f e
+  step-taken d e image = ap (taken c) e ∙ by-decoded image (decode w ws)
 
-  module _ (k : Command′) (e : decodedAt l (c .at) ≡ decoded.Command k) (small : getD l (c .at) 0 < 2 ^ 32) where
-    d : Decodes l (c .at) k
-    d = decodes l (c .at) k e
+  inside-decoded : (x : Decoded) → decode w ws ≡ x → length l < 2 ^ 62 → c .at < length l → InsideAfter c (viewDecoded (c .at) x)
+  inside-decoded (bad f) e long inside = tt
+  inside-decoded (good d) e long inside = omega (arith, decode-read w ws d e .enough, length-drop (suc (c .at)) l)
 
-    r : Read w ws (d .rule)
-    r = decode-read w ws (d .rule) (d .decoded)
-
-    known-id : Known (d .rule .row .id)
-    known-id = known-row (d .rule .row .id) (omega (arith, r .first)) (d .rule .row) (r .valid .found)
-
-    pub fits : length l < 2 ^ 62 → c .at < length l → Inside (c .at + k .words)
-    fits long inside = omega (arith, ap (λ (x : Command′). x .words) (d .is), r .enough, length-drop (suc (c .at)) l)
-
-    ordered : (image : List ℕ) → stepAt l image c ≡ view c (inOrder (cond (c .flip && not (eqb (k .row) beginRow)) (some 10) none) (d .rule) (next (stateOf image c) (d .rule)))
-    unfolding stepAt step outOfOrder
-    ordered image =
-        ap (λ (x : Decoded). view c (stepDecoded (stateOf image c) x)) (d .decoded)
-        ∙ ap (λ (b : Bool). view c (inOrder (cond (c .flip && not b) (some 10) none) (d .rule) (next (stateOf image c) (d .rule))))
-        (ap (λ (x : Row). isBegin (x .kind)) (sym (row-is (d .rule .row .id) (d .rule .row) (r .valid .found))) ∙ known-id .begins ∙ ap (λ (x : Command′). eqb (x .row) beginRow) (sym (d .is)))
-
-    -- 10
-    pub step-flip : (c .flip && not (eqb (k .row) beginRow)) ≡ true → (image : List ℕ) → stepAt l image c ≡ Refused (refusal 10 (c .at))
-    step-flip t image = ordered image ∙ rw (t, add-zero)
-
-    pub step-on : (c .flip && not (eqb (k .row) beginRow)) ≡ false → (image : List ℕ) → stepAt l image c ≡ On (after c k)
-    unfolding orderAfter
-    step-on t image = ordered image ∙ rw t (sym (ap (λ (x : Command′). On (after c x)) (d .is) ∙ rw (← known-id .base)))
+  pub inside-after : (d : Decoded′) → d ≡ decodedAt l (c .at) → length l < 2 ^ 62 → c .at < length l → InsideAfter c d
+  unfolding decodedAt
+  inside-after d e long inside = rw e (inside-decoded (decode w ws) refl long inside)
 
 -- ---- the walk
 

@@ -1,8 +1,7 @@
 -- The walk along a list, as the code has it: `Rattle.rules`' walk with its commands counted.
 use Prim.Native.Nat.{ℕ, suc, _+_, _^_, _≤_, _<_}
-use mathlib.Core.Bool.{cond, false}
+use mathlib.Core.Bool.{cond, false, not, _&&_}
 use mathlib.Core.List.{List}
-use lib.Dec.{eqb}
 use lib.ListN.{length, getD, drop}
 use Rattle.rules.specs.Table.{isSetting}
 use Rattle.rules.specs.Walk.{State, stop, took, step, Parsed, refused, accepted}
@@ -10,7 +9,8 @@ use Rattle.rules.specs.Walk.{Step as RulesStep}
 use Rattle.rules.specs.Values.{refusal}
 use Rattle.rules.specs.Records.{records}
 use Rattle.command.specs.declared.Command.{Command}
-use Rattle.table.specs.Tables.{baseRow}
+use Rattle.command.specs.declared.Decoded.{Decoded}
+use Rattle.command.specs.declared.Decoded.the-variants as decoded
 use Rattle.list.specs.declared.Cursor.{Cursor}
 use Rattle.list.specs.declared.Step.{Step}
 use Rattle.list.specs.declared.Step.the-variants.{On, Refused}
@@ -36,8 +36,17 @@ after c k =
       at = c .at + k .words;
       commands = c .commands + 1;
       records = c .records + cond (k .setting) 0 1;
-      flip = eqb (k .row) baseRow;
+      flip = k .base;
     }
+
+-- the same of a decoded command, or its refusal: 10 behind a surface base
+abbrev pub taken : Cursor → Decoded → Step
+taken c (decoded.Refused f) = Refused f
+taken c (decoded.Command k) = cond (c .flip && not (k .begin)) (Refused (refusal 10 (c .at))) (On (after c k))
+
+abbrev pub InsideAfter : Cursor → Decoded → Type 0
+InsideAfter c (decoded.Refused f) = Unit {0}
+InsideAfter c (decoded.Command k) = Inside (c .at + k .words)
 
 -- the rules' state at a cursor, with the image that is met there
 abbrev pub stateOf : List ℕ → Cursor → State

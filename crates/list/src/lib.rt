@@ -17,7 +17,7 @@ ghost use Rattle.rules.specs.Answer.{refusedAnswer, reading, commandsOf};
 ghost use Rattle.table.specs.Ids.{settingKind};
 ghost use Rattle.table.specs.Tables.{rowTable};
 ghost use Rattle.command.specs.View.{sizeAt};
-ghost use Rattle.list.specs.View.{origin, after, stepAt, walkedOf, Counted, Inside};
+ghost use Rattle.list.specs.View.{origin, after, taken, stepAt, walkedOf, Counted, Inside, InsideAfter};
 ghost use Rattle.list.specs.Effects.{idAt, commandAt, CommandAt, recordAt, Applies, Applied};
 
 // Where the walk stands: the position and the counts after the commands passed, and whether the last was a surface base.
@@ -48,7 +48,7 @@ fn record_count(setting: bool) -> usize
 }
 
 impl Cursor {
-    fn start() -> Self
+    pub fn start() -> Self
         ensures { λ r. ⌜ r ≡ origin ⌝ }
     {
         Cursor {
@@ -68,29 +68,43 @@ impl Cursor {
             at: self.at + k.words,
             commands: self.commands + 1,
             records: self.records + work,
-            flip: k.row == table::SURFACE_BASE,
+            flip: k.base,
         }
     }
 
-    // One command: refusals 3 to 10, from every image that it may meet.
-    fn step(self, rows: &[u8; 256], list: &[u32]) -> Step
-        requires { ⌜ Counted self × (self .at < length (now list)) × (now rows ≡ rowTable) ⌝ }
-        ensures { λ r. ⌜ ((image : List ℕ) → r ≡ stepAt (now (list .entry)) image self) ⌝ }
+    // The cursor after a decoded command, or its refusal: 3 to 10.
+    pub fn take(self, d: Decoded) -> Step
+        requires { ⌜ Counted self × InsideAfter self d ⌝ }
+        ensures { λ r. ⌜ r ≡ taken self d ⌝ }
     {
-        let at = self.at;
-        let d = command::decode(rows, list, at);
         match d {
             Decoded::Refused(f) => Step::Refused(f),
             Decoded::Command(k) => {
-                if self.flip & (k.row != table::BEGIN) {
+                if self.flip & !k.begin {
                     return Step::Refused(Refusal {
                         number: 10,
-                        word: at,
+                        word: self.at,
                     });
                 }
                 Step::On(self.after(k))
             }
         }
+    }
+
+    // One command: refusals 3 to 10, from every image that it may meet. Each known id from 40 on has a group.
+    fn step(self, rows: &[u8; 256], list: &[u32]) -> Step
+        requires { ⌜ Counted self × (self .at < length (now list)) × (now rows ≡ rowTable) ⌝ }
+        ensures { λ r. ⌜ ((image : List ℕ) → r ≡ stepAt (now (list .entry)) image self) ⌝ }
+    {
+        let id = words::id_of(words::fetch(list, self.at));
+        let row = rows[id as usize];
+        if table::UNKNOWN <= row {
+            return self.take(command::refused(command::unknown(id), self.at));
+        }
+        if (0x40 <= id) | (row == table::BEGIN) {
+            return self.take(command::decode_group(list, self.at, id, row));
+        }
+        self.take(command::decode_single(list, self.at, id, row))
     }
 }
 

@@ -1,19 +1,18 @@
 -- What a listing says of a list: its refusal, or a line for each record. Refusal 11 is never given.
-use Prim.Native.Nat.{ℕ, suc, _+_, _%_, _≤_}
+use Prim.Native.Nat.{ℕ, _+_, _%_, _≤_}
 use native.Mathlib.Omega.{arith}
 use mathlib.Core.Path.{_≡_, refl, ap, _∙_}
-use mathlib.Core.Bool.{true, false, cond}
 use mathlib.Core.List.{List, [], _∷_, _++_}
 use borrow.Author.Tests.{le-ltb, eq-eqb, eqb-false}
-use lib.ListN.{length, length-append}
+use lib.ListN.{length}
 use Rattle.rules.specs.declared.Refusal.{Refusal}
-use Rattle.rules.specs.Table.{isSetting}
-use Rattle.rules.specs.Command.{Command, wordsAll}
+use Rattle.rules.specs.Command.{Command}
 use Rattle.rules.specs.Walk.{refused, accepted, parse}
 use Rattle.rules.specs.Image.{final}
 use Rattle.rules.specs.Records.{Record, records, recordWords}
 use Rattle.rules.specs.Answer.{room, readParsed, reading}
 use Rattle.rules.proofs.Numbers.{Proper, parse-refuses}
+use Rattle.rules.proofs.Records.{records-few}
 use Rattle.rules.proofs.Verdict.{reads, written-accept}
 use Rattle.rules.proofs.Parse.{parse-accepted}
 use Rattle.report.specs.Text.{ascii, line, twoNumbers}
@@ -27,17 +26,6 @@ recordLines (r ∷ rs) = line (r .id) (r .position) (r .size) (r .header) ++ rec
 lines-are : (rs : List Record) → chunks line (recordWords rs) ≡ recordLines rs
 lines-are [] = refl
 lines-are (r ∷ rs) = ap (λ (l : List ℕ). line (r .id) (r .position) (r .size) (r .header) ++ l) (lines-are rs)
-
--- no more records than words
-records-few : (p : ℕ) (cs : List Command) → length (records p cs) ≤ length (wordsAll cs)
-records-few p [] = omega arith
-records-few p (c ∷ cs) =
-    let n : ℕ = suc (length (c .rest)) in
-    let rs : List Record = records (p + n) cs in
-    let all : length (wordsAll (c ∷ cs)) ≡ n + length (wordsAll cs) = omega (arith, length-append (c .rest) (wordsAll cs)) in
-    let later : length rs ≤ length (wordsAll cs) = records-few (p + n) cs in
-    (elim (isSetting (c .row .kind)) as (λ t. length (cond t rs (record { id = c .row .id; position = p; size = n; header = c .header } ∷ rs))
-    ≤ length (wordsAll (c ∷ cs))) [ true ↦ omega arith | false ↦ omega arith ])
 
 module _ (input image buffer : List ℕ) (few : length input ≤ 16384) (even : length input % 4 ≡ 0) where
   read-is : readBytes input image buffer ≡ reading (wordsOf input) image buffer

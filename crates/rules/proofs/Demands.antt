@@ -1,10 +1,12 @@
--- The demands, about the definitions that the contracts of `read` and `normalise` cite: `reading` and `normalising` give
--- what the two functions return and write. Lists, images and buffers are any words whatever.
-use Prim.Native.Nat.{ℕ, _≤_}
-use mathlib.Core.Path.{_≡_, ap}
+-- The demands, about the definitions that the contracts of `read`, `normalise`, `to_pci` and `from_pci` cite: `reading`,
+-- `normalising`, `toPci` and `fromPci` give what the functions return and write. Lists, images, pairs and buffers are any
+-- words whatever.
+use Prim.Native.Nat.{ℕ, _*_, _≤_}
+use native.Mathlib.Omega.{arith}
+use mathlib.Core.Path.{_≡_, ap, sym, _∙_, subst}
 use mathlib.Core.Logic.{_↔_}
-use mathlib.Core.List.{List}
-use lib.ListN.{length, getD}
+use mathlib.Core.List.{List, _++_}
+use lib.ListN.{length, getD, length-append}
 use Rattle.rules.specs.Command.{Command, wordsAll}
 use Rattle.rules.specs.Values.{refusal}
 use Rattle.rules.specs.Walk.{parse}
@@ -13,8 +15,11 @@ use Rattle.rules.specs.Image.{final, Unset}
 use Rattle.rules.specs.Records.{records, recordWords, withoutPositions}
 use Rattle.rules.specs.Form.{form}
 use Rattle.rules.specs.Answer.{Outcome, refuse, accept, room, reading, normalising, commandsOf, does, normalForm, written}
+use Rattle.rules.specs.Pci.{pairsAll, values, wholePairs, parsePairs, toPci, fromPci}
 use Rattle.rules.proofs.Parse.{parse-accepted, accepted-parse}
-use Rattle.rules.proofs.Verdict.{reads, reading-zero, normalises, normalising-zero}
+use Rattle.rules.proofs.Records.{records-few}
+use Rattle.rules.proofs.Verdict.{written-accept, reads, reading-zero, normalises, normalising-zero}
+use Rattle.rules.proofs.Pci.{values-all, whole-all, whole-values, pairs-length, carries-pairs, pairs-carry, to-pci, to-pci-zero, from-pci, from-pci-zero}
 use Rattle.rules.proofs.Outcomes as laws
 
 -- ---- Demand 1: "a refusal changes neither the image nor any buffer", and its counts are 0
@@ -27,6 +32,14 @@ pub normaliser-refuses : (ws image buffer : List ℕ) → (normalising ws image 
     → normalising ws image buffer
     ≡ refuse (refusal (normalising ws image buffer .answer .verdict) (normalising ws image buffer .answer .position)) image buffer
 normaliser-refuses = laws.normalising-refuses
+
+pub to-pci-refuses : (ws image buffer : List ℕ) → (toPci ws image buffer .answer .verdict ≡ 0 → ⊥)
+    → toPci ws image buffer ≡ refuse (refusal (toPci ws image buffer .answer .verdict) (toPci ws image buffer .answer .position)) image buffer
+to-pci-refuses = laws.to-pci-refuses
+
+pub from-pci-refuses : (ps image buffer : List ℕ) → (fromPci ps image buffer .answer .verdict ≡ 0 → ⊥)
+    → fromPci ps image buffer ≡ refuse (refusal (fromPci ps image buffer .answer .verdict) (fromPci ps image buffer .answer .position)) image buffer
+from-pci-refuses = laws.from-pci-refuses
 
 -- ---- Demand 2
 
@@ -133,3 +146,148 @@ module _ (image ws recs out : List ℕ) (a : BothAccept image ws recs out) where
     -- "The normaliser writes the same words again": the form "is its own normal form"
     pub form-again : written (normalising theForm image out′) ≡ theForm
     form-again = laws.back-again image ws out (a .by-normaliser) out′ long
+
+-- ---- PCI writes (document 02, Ticket 1)
+
+-- "an accepted list", and its pairs fit
+pub record ToPciAccepts (image ws buffer : List ℕ) : Type 0 where
+  pub commands : List Command
+  pub accepted : Accepted image ws commands
+  pub fits : length (pairsAll commands) ≤ length buffer
+
+pub to-pci-gives : (image ws buffer : List ℕ) (a : ToPciAccepts image ws buffer)
+    → toPci ws image buffer ≡ accept ws (a .commands) (pairsAll (a .commands)) image buffer
+to-pci-gives image ws buffer a = to-pci image ws buffer (a .commands) (accepted-parse image ws (a .commands) (a .accepted)) (a .fits) .is
+
+pub to-pci-accepts-exactly : (image ws buffer : List ℕ) → (toPci ws image buffer .answer .verdict ≡ 0) ↔ ToPciAccepts image ws buffer
+to-pci-accepts-exactly image ws buffer = (
+  λ z. let t = to-pci-zero image ws buffer z in
+      record { commands = commandsOf (parse image ws); accepted = parse-accepted image ws _ (t .parsed); fits = t .fits },
+  λ a. ap (λ (o : Outcome). o .answer .verdict) (to-pci-gives image ws buffer a),
+)
+
+-- the reader accepts the same lists, where buffers are large enough
+pub to-pci-as-the-reader : (image ws recs buffer : List ℕ) → length ws ≤ room recs → 2 * length ws ≤ length buffer
+    → (toPci ws image buffer .answer .verdict ≡ 0) ↔ (reading ws image recs .answer .verdict ≡ 0)
+to-pci-as-the-reader image ws recs buffer enough long = (
+  λ z. let a = to-pci-accepts-exactly image ws buffer .0 z in
+      reader-accepts-exactly image ws recs .1 (record {
+        commands = a .commands;
+        accepted = a .accepted;
+        fits = omega (arith, ap length (a .accepted .parses .words-are), records-few 0 (a .commands));
+      }),
+  λ z. let a = reader-accepts-exactly image ws recs .0 z in
+      to-pci-accepts-exactly image ws buffer .1 (record {
+        commands = a .commands;
+        accepted = a .accepted;
+        fits = omega (arith, ap length (a .accepted .parses .words-are), pairs-length (a .commands));
+      }),
+)
+
+-- the pairs, but for an odd last word, are those of an accepted list, and it fits
+pub record FromPciAccepts (image ps buffer : List ℕ) : Type 0 where
+  pub commands : List Command
+  pub accepted : Accepted image (wordsAll commands) commands
+  pub pairs-are : wholePairs ps ≡ pairsAll commands
+  pub fits : length (wordsAll commands) ≤ length buffer
+
+module _ (image ps buffer : List ℕ) where
+  carried : (a : FromPciAccepts image ps buffer) → values ps ≡ wordsAll (a .commands)
+  carried a = sym (whole-values ps) ∙ ap values (a .pairs-are) ∙ values-all (a .commands)
+
+  pub from-pci-gives : (a : FromPciAccepts image ps buffer)
+      → fromPci ps image buffer ≡ accept (wordsAll (a .commands)) (a .commands) (wordsAll (a .commands)) image buffer
+  from-pci-gives a =
+      let parsed = ap (parse image) (carried a) ∙ accepted-parse image _ (a .commands) (a .accepted) in
+      let all = carries-pairs image ps (a .commands) (record { parsed = parsed; pairs-are = a .pairs-are }) in
+      from-pci image ps buffer (a .commands) all (omega (arith, ap length (carried a), a .fits)) .is
+      ∙ ap (λ (l : List ℕ). accept l (a .commands) l image buffer) (carried a)
+
+  -- exactly the pairs of accepted lists are accepted
+  pub from-pci-accepts-exactly : (fromPci ps image buffer .answer .verdict ≡ 0) ↔ FromPciAccepts image ps buffer
+  from-pci-accepts-exactly = (
+    λ z. let f = from-pci-zero image ps buffer z in
+        let cs : List Command = commandsOf (parsePairs image ps) in
+        let k = pairs-carry image ps cs (f .parsed) in
+        let a = parse-accepted image (values ps) cs (k .parsed) in
+        record {
+          commands = cs;
+          accepted = subst (λ (l : List ℕ). Accepted image l cs) (a .parses .words-are) a;
+          pairs-are = k .pairs-are;
+          fits = omega (arith, f .fits, ap length (a .parses .words-are));
+        },
+    λ a. ap (λ (o : Outcome). o .answer .verdict) (from-pci-gives a),
+  )
+
+-- the same by what the functions give: these are the pairs written of some list that the reader accepts. The record buffer and
+-- the buffer for pairs are large enough for any list.
+pub record CarriesReadList (image ps buffer recs pairs : List ℕ) : Type 0 where
+  pub list : List ℕ
+  pub by-reader : reading list image recs .answer .verdict ≡ 0
+  pub pairs-are : written (toPci list image pairs) ≡ wholePairs ps
+  pub fits : length list ≤ length buffer
+
+module _ (image ps buffer recs pairs : List ℕ) (enough : 4096 ≤ room recs) (long : 2 * 4096 ≤ length pairs) where
+  writes : (ws : List ℕ) (cs : List Command) → Accepted image ws cs → written (toPci ws image pairs) ≡ pairsAll cs
+  writes ws cs a =
+      let fits : length (pairsAll cs) ≤ length pairs = omega (arith, pairs-length cs, ap length (a .parses .words-are), a .few) in
+      ap written (to-pci-gives image ws pairs (record { commands = cs; accepted = a; fits = fits })) ∙ written-accept ws cs (pairsAll cs) image pairs
+
+  pub from-pci-as-the-reader : (fromPci ps image buffer .answer .verdict ≡ 0) ↔ CarriesReadList image ps buffer recs pairs
+  from-pci-as-the-reader = (
+    λ z. let a = from-pci-accepts-exactly image ps buffer .0 z in
+        record {
+          list = wordsAll (a .commands);
+          by-reader = reader-accepts-exactly image (wordsAll (a .commands)) recs .1
+              (record { commands = a .commands; accepted = a .accepted; fits = omega (arith, a .accepted .few, records-few 0 (a .commands)) });
+          pairs-are = writes (wordsAll (a .commands)) (a .commands) (a .accepted) ∙ sym (a .pairs-are);
+          fits = a .fits;
+        },
+    λ c. let r = reader-accepts-exactly image (c .list) recs .0 (c .by-reader) in
+        let is = r .accepted .parses .words-are in
+        from-pci-accepts-exactly image ps buffer .1 (record {
+          commands = r .commands;
+          accepted = subst (λ (l : List ℕ). Accepted image l (r .commands)) is (r .accepted);
+          pairs-are = sym (c .pairs-are) ∙ writes (c .list) (r .commands) (r .accepted);
+          fits = omega (arith, ap length is, c .fits);
+        }),
+  )
+
+-- "the two undo each other on accepted lists": of what the one wrote the other writes what it was made of
+pub list-comes-back : (image ws pairs list : List ℕ) → toPci ws image pairs .answer .verdict ≡ 0 → length ws ≤ length list
+    → (fromPci (written (toPci ws image pairs)) image list .answer .verdict ≡ 0) × (written (fromPci (written (toPci ws image pairs)) image list) ≡ ws)
+list-comes-back image ws pairs list z long =
+    let a = to-pci-accepts-exactly image ws pairs .0 z in
+    let wrote = ap written (to-pci-gives image ws pairs a) ∙ written-accept ws (a .commands) (pairsAll (a .commands)) image pairs in
+    let is = a .accepted .parses .words-are in
+    let gives = from-pci-gives image (written (toPci ws image pairs)) list (record {
+      commands = a .commands;
+      accepted = subst (λ (l : List ℕ). Accepted image l (a .commands)) is (a .accepted);
+      pairs-are = ap wholePairs wrote ∙ whole-all (a .commands);
+      fits = omega (arith, ap length is, long);
+    }) in
+    (ap (λ (o : Outcome). o .answer .verdict) gives, ap written gives ∙ written-accept (wordsAll (a .commands)) (a .commands) (wordsAll (a .commands)) image list ∙ sym is)
+
+pub pairs-come-back : (image ps list pairs : List ℕ) → fromPci ps image list .answer .verdict ≡ 0 → length (wholePairs ps) ≤ length pairs
+    → (toPci (written (fromPci ps image list)) image pairs .answer .verdict ≡ 0) × (written (toPci (written (fromPci ps image list)) image pairs) ≡ wholePairs ps)
+pairs-come-back image ps list pairs z long =
+    let a = from-pci-accepts-exactly image ps list .0 z in
+    let ws : List ℕ = wordsAll (a .commands) in
+    let wrote = ap written (from-pci-gives image ps list a) ∙ written-accept ws (a .commands) ws image list in
+    let gives = to-pci-gives image (written (fromPci ps image list)) pairs (record {
+      commands = a .commands;
+      accepted = subst (λ (l : List ℕ). Accepted image l (a .commands)) (sym wrote) (a .accepted);
+      fits = omega (arith, ap length (a .pairs-are), long);
+    }) in (
+      ap (λ (o : Outcome). o .answer .verdict) gives,
+      ap written gives ∙ written-accept (written (fromPci ps image list)) (a .commands) (pairsAll (a .commands)) image pairs ∙ sym (a .pairs-are),
+    )
+
+-- two lists with the same pairs are the same list
+pub same-pairs-same-list : (image ws us pairs pairs′ : List ℕ) → toPci ws image pairs .answer .verdict ≡ 0 → toPci us image pairs′ .answer .verdict ≡ 0
+    → written (toPci ws image pairs) ≡ written (toPci us image pairs′) → ws ≡ us
+same-pairs-same-list image ws us pairs pairs′ y z e =
+    let room : List ℕ = ws ++ us in
+    let back = list-comes-back image ws pairs room y (omega (arith, length-append ws us)) .1 in
+    let back′ = list-comes-back image us pairs′ room z (omega (arith, length-append ws us)) .1 in
+    sym back ∙ ap (λ (ps : List ℕ). written (fromPci ps image room)) e ∙ back′

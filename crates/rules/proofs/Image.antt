@@ -1,5 +1,6 @@
 -- Laws of the image: runs of words put and read.
 use Prim.Native.Nat.{ℕ, zero, suc, _+_, _≤_, _<_}
+use native.Mathlib.Nat.{add-zero, zero-add}
 use native.Mathlib.Omega.{arith}
 use mathlib.Core.Path.{_≡_, refl, ap, ap₂, sym, _∙_}
 use mathlib.Core.Bool.{true, _&&_}
@@ -46,6 +47,14 @@ read-at a b i (suc n) e k p q =
       | no d ↦ read-at a b (suc i) n tl k (omega arith) (omega arith)
     ]
 
+-- a run in two parts
+pub read-add : (l : List ℕ) (at i j : ℕ) → read l at (i + j) ≡ read l at i ++ read l (at + i) j
+read-add l at zero j = rw (zero-add j, add-zero at)
+read-add l at (suc i) j =
+    let n : suc i + j ≡ suc (i + j) = omega arith in
+    let k : suc at + i ≡ at + suc i = omega arith in
+    rw n (ap (λ (x : List ℕ). getD l at 0 ∷ x) (read-add l (suc at) i j ∙ rw k))
+
 pub read-sets : (l : List ℕ) (i : ℕ) (vs : List ℕ) → i + length vs ≤ length l → read (sets l i vs) i (length vs) ≡ vs
 read-sets l i [] h = refl
 read-sets l i (v ∷ vs) h =
@@ -72,3 +81,21 @@ equal-refl (x ∷ xs) = ap₂ _&&_ (eq-eqb x x refl) (equal-refl xs)
 pub sets-append : (l : List ℕ) (i : ℕ) (a b : List ℕ) → sets l i (a ++ b) ≡ sets (sets l i a) (i + length a) b
 sets-append l i [] b = ap (λ (j : ℕ). sets l j b) (omega arith)
 sets-append l i (v ∷ a) b = sets-append (set l i v) (suc i) a b ∙ ap (λ (j : ℕ). sets (sets (set l i v) (suc i) a) j b) (omega arith)
+
+-- a run put after another, and word by word
+module _ (out : List ℕ) (n : ℕ) (l : List ℕ) (at : ℕ) where
+  pub sets-read-add : (i j : ℕ) → sets out n (read l at (i + j)) ≡ sets (sets out n (read l at i)) (n + i) (read l (at + i) j)
+  sets-read-add i j =
+      ap (sets out n) (read-add l at i j) ∙ sets-append out n (read l at i) (read l (at + i) j)
+      ∙ ap (λ (k : ℕ). sets (sets out n (read l at i)) (n + k) (read l (at + i) j)) (length-read l at i)
+
+  pub copied-on : (i : ℕ) → set (sets out n (read l at i)) (n + i) (getD l (at + i) 0) ≡ sets out n (read l at (i + 1))
+  copied-on i = sym (sets-read-add i 1)
+
+read-tail : (x : ℕ) (l : List ℕ) (i n : ℕ) → read (x ∷ l) (suc i) n ≡ read l i n
+read-tail x l i zero = refl
+read-tail x l i (suc n) = ap {B = List ℕ} (λ m. getD l i 0 ∷ m) (read-tail x l (suc i) n)
+
+pub read-all : (l : List ℕ) → read l 0 (length l) ≡ l
+read-all [] = refl
+read-all (x ∷ l) = ap {B = List ℕ} (λ m. x ∷ m) (read-tail x l 0 (length l) ∙ read-all l)

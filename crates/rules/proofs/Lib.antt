@@ -9,6 +9,7 @@ pub mod Numbers
 pub mod Verdict
 pub mod Records
 pub mod Outcomes
+pub mod Pci
 pub mod Demands
 pub mod Walk
 pub mod Cases

@@ -128,7 +128,7 @@ onward-refuses : (m p k : ℕ) (go : State → ℕ → Parsed) (x : Step) → Re
 onward-refuses m p k go (stop f) e h ih = record { number = e .number; near = omega (arith, e .near) }
 onward-refuses m p k go (took c t) e h ih = then-refuses m c (go t (length (c .rest))) (ih t (length (c .rest)))
 
-walk-refuses : (m : ℕ) (s : State) (p k : ℕ) (ws : List ℕ) → p + length ws + 2 ≤ m → RefusesList m (walk s p k ws)
+pub walk-refuses : (m : ℕ) (s : State) (p k : ℕ) (ws : List ℕ) → p + length ws + 2 ≤ m → RefusesList m (walk s p k ws)
 unfolding walk step decode
 walk-refuses m s p k [] h = tt
 walk-refuses m s p (suc k) (w ∷ ws) h = walk-refuses m s (suc p) k ws (omega arith)
@@ -137,7 +137,7 @@ walk-refuses m s p zero (w ∷ ws) h =
     (step-refuses _ s (decodeKnown w ws (rowOf (idOf w))) (known-refuses w ws (rowOf (idOf w)))) (omega arith)
     (λ t k. walk-refuses m t (suc p) k ws (omega arith))
 
-sized-refuses : (n : ℕ) (b : Bool) (x : Parsed) → (n ≤ 4096 → RefusesList 4098 x) → RefusesList 4098 (sized (ltb 4096 n) b x)
+pub sized-refuses : (n : ℕ) (b : Bool) (x : Parsed) → (n ≤ 4096 → RefusesList 4098 x) → RefusesList 4098 (sized (ltb 4096 n) b x)
 sized-refuses n b x p =
     (elim (ltb 4096 n) as (λ t. ltb 4096 n ≡ t → RefusesList 4098 (sized t b x)) [
       | true ↦ λ e. record { number = refl; near = omega arith }

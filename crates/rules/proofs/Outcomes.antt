@@ -16,7 +16,8 @@ use Rattle.rules.specs.Image.{leave, apply, final, UnsetBy, Unset}
 use Rattle.rules.specs.Records.{records, recordWords, withoutPositions}
 use Rattle.rules.specs.Effect.{Effect, effect, works}
 use Rattle.rules.specs.Form.{form}
-use Rattle.rules.specs.Answer.{Outcome, refuse, accept, fitting, room, readParsed, normaliseParsed, reading, normalising, commandsOf, does, normalForm, written}
+use Rattle.rules.specs.Answer.{Outcome, refuse, accept, fitting, room, readParsed, writeParsed, reading, normalising, commandsOf, does, normalForm, written}
+use Rattle.rules.specs.Pci.{pairsAll, values, parsePairs, toPci, fromPci}
 use Rattle.rules.specs.Valid.{AllValid}
 use Rattle.rules.proofs.Parse.{parse-accepted}
 use Rattle.rules.proofs.Differing.{sets-outside}
@@ -39,12 +40,12 @@ read-refuses ws image buffer (refused f) n = refl
 read-refuses ws image buffer (accepted cs) n =
     fitting-refuses (ltb (room buffer) (length (records 0 cs))) ws image buffer (accept ws cs (recordWords (records 0 cs)) (final image cs) buffer) refl n
 
-normalise-refuses : (ws image buffer : List ℕ) (x : Parsed) → (normaliseParsed ws image buffer x .answer .verdict ≡ 0 → ⊥)
-    → normaliseParsed ws image buffer x
-    ≡ refuse (refusal (normaliseParsed ws image buffer x .answer .verdict) (normaliseParsed ws image buffer x .answer .position)) image buffer
-normalise-refuses ws image buffer (refused f) n = refl
-normalise-refuses ws image buffer (accepted cs) n =
-    fitting-refuses (ltb (length buffer) (length (wordsAll (form image cs)))) ws image buffer (accept ws cs (wordsAll (form image cs)) image buffer) refl n
+write-refuses : (made : List Command → List ℕ) (ws image buffer : List ℕ) (x : Parsed) → (writeParsed made ws image buffer x .answer .verdict ≡ 0 → ⊥)
+    → writeParsed made ws image buffer x
+    ≡ refuse (refusal (writeParsed made ws image buffer x .answer .verdict) (writeParsed made ws image buffer x .answer .position)) image buffer
+write-refuses made ws image buffer (refused f) n = refl
+write-refuses made ws image buffer (accepted cs) n =
+    fitting-refuses (ltb (length buffer) (length (made cs))) ws image buffer (accept ws cs (made cs) image buffer) refl n
 
 pub reading-refuses : (ws image buffer : List ℕ) → (reading ws image buffer .answer .verdict ≡ 0 → ⊥)
     → reading ws image buffer ≡ refuse (refusal (reading ws image buffer .answer .verdict) (reading ws image buffer .answer .position)) image buffer
@@ -55,7 +56,17 @@ pub normalising-refuses : (ws image buffer : List ℕ) → (normalising ws image
     → normalising ws image buffer
     ≡ refuse (refusal (normalising ws image buffer .answer .verdict) (normalising ws image buffer .answer .position)) image buffer
 unfolding normalising
-normalising-refuses ws image buffer n = normalise-refuses ws image buffer (parse image ws) n
+normalising-refuses ws image buffer n = write-refuses (λ cs. wordsAll (form image cs)) ws image buffer (parse image ws) n
+
+pub to-pci-refuses : (ws image buffer : List ℕ) → (toPci ws image buffer .answer .verdict ≡ 0 → ⊥)
+    → toPci ws image buffer ≡ refuse (refusal (toPci ws image buffer .answer .verdict) (toPci ws image buffer .answer .position)) image buffer
+unfolding toPci
+to-pci-refuses ws image buffer n = write-refuses pairsAll ws image buffer (parse image ws) n
+
+pub from-pci-refuses : (ps image buffer : List ℕ) → (fromPci ps image buffer .answer .verdict ≡ 0 → ⊥)
+    → fromPci ps image buffer ≡ refuse (refusal (fromPci ps image buffer .answer .verdict) (fromPci ps image buffer .answer .position)) image buffer
+unfolding fromPci
+from-pci-refuses ps image buffer n = write-refuses (λ cs. values ps) (values ps) image buffer (parsePairs image ps) n
 
 -- ---- words that no command sets
 

@@ -137,7 +137,7 @@ walk-words s p (c ∷ cs) v f =
     ∙ ap (andThen c) (walk-skip (next s c) (suc p) (c .rest) (wordsAll cs) ∙ walk-words (next s c) (suc p + length (c .rest)) cs (v .1) (f .1))
 
 -- the whole list
-sized-accepted : (a b : Bool) (x : Parsed) (cs : List Command) → sized a b x ≡ accepted cs → (a ≡ false) × (b ≡ false) × (x ≡ accepted cs)
+pub sized-accepted : (a b : Bool) (x : Parsed) (cs : List Command) → sized a b x ≡ accepted cs → (a ≡ false) × (b ≡ false) × (x ≡ accepted cs)
 sized-accepted true b x cs e = (cc, cc, cc)
 sized-accepted false true x cs e = (cc, cc, cc)
 sized-accepted false false x cs e = (refl, refl, e)

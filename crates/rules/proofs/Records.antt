@@ -1,5 +1,5 @@
 -- The records but for their positions are fixed by the work that a list does.
-use Prim.Native.Nat.{ℕ, suc, _+_}
+use Prim.Native.Nat.{ℕ, suc, _+_, _≤_}
 use mathlib.Core.Path.{_≡_, refl, ap, ap₂, sym, _∙_}
 use mathlib.Core.Bool.{true, false, cond}
 use mathlib.Core.List.{List, [], _∷_, _++_, map}
@@ -13,6 +13,20 @@ use Rattle.rules.specs.Image.{apply}
 use Rattle.rules.specs.Records.{Record, records, recordWords, withoutPositions}
 use Rattle.rules.specs.Effect.{Work, works}
 use Rattle.rules.specs.Valid.{AllValid}
+
+-- no more records than commands, and no more commands than words
+pub records-few : (p : ℕ) (cs : List Command) → (length (records p cs) ≤ length cs) × (length cs ≤ length (wordsAll cs))
+records-few p [] = (omega arith, omega arith)
+records-few p (c ∷ cs) =
+    let n : ℕ = suc (length (c .rest)) in
+    let rs : List Record = records (p + n) cs in
+    let later = records-few (p + n) cs in (
+      (elim (isSetting (c .row .kind)) as (λ t. length (cond t rs (record { id = c .row .id; position = p; size = n; header = c .header } ∷ rs)) ≤ suc (length cs)) [
+        | true ↦ omega arith
+        | false ↦ omega arith
+      ]),
+      omega (arith, length-append (c .rest) (wordsAll cs)),
+    )
 
 -- a record without its position: id, length, header
 pub record Unplaced : Type 0 where

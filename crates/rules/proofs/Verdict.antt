@@ -13,7 +13,7 @@ use Rattle.rules.specs.Walk.{Parsed, refused, accepted, parse}
 use Rattle.rules.specs.Image.{final}
 use Rattle.rules.specs.Records.{Record, records, recordWords}
 use Rattle.rules.specs.Form.{form}
-use Rattle.rules.specs.Answer.{Outcome, accept, fitting, room, readParsed, normaliseParsed, reading, normalising, commandsOf, written}
+use Rattle.rules.specs.Answer.{Outcome, accept, fitting, room, readParsed, writeParsed, reading, normalising, commandsOf, written}
 use Rattle.rules.proofs.Numbers.{RefusesList, parse-refuses}
 
 fitting-zero : (small : Bool) (ws image buffer : List ℕ) (done : Outcome) → fitting small ws image buffer done .answer .verdict ≡ 0 → small ≡ false
@@ -34,11 +34,34 @@ pub record Reads (image ws buffer : List ℕ) (cs : List Command) : Type 0 where
   pub fits : length (records 0 cs) ≤ room buffer
   pub is : reading ws image buffer ≡ accept ws cs (recordWords (records 0 cs)) (final image cs) buffer
 
+-- a call that only reads the image accepts a list of commands, and gives o
+pub record Writes (made : List Command → List ℕ) (ws image buffer : List ℕ) (x : Parsed) (o : Outcome) (cs : List Command) : Type 0 where
+  pub parsed : x ≡ accepted cs
+  pub fits : length (made cs) ≤ length buffer
+  pub is : o ≡ accept ws cs (made cs) image buffer
+
+module _ (made : List Command → List ℕ) (ws image buffer : List ℕ) (x : Parsed) where
+  pub writes : (cs : List Command) → x ≡ accepted cs → length (made cs) ≤ length buffer
+      → Writes made ws image buffer x (writeParsed made ws image buffer x) cs
+  writes cs e h =
+      let t : ltb (length buffer) (length (made cs)) ≡ false = le-ltb (length buffer) (length (made cs)) h in
+      record { parsed = e; fits = h; is = ap (writeParsed made ws image buffer) e ∙ rw t }
+
+  -- verdict 0 says so
+  pub writes-zero : RefusesList 4098 x → writeParsed made ws image buffer x .answer .verdict ≡ 0
+      → Writes made ws image buffer x (writeParsed made ws image buffer x) (commandsOf x)
+  writes-zero r z = by-parsed x refl r z
+    where
+      by-parsed : (y : Parsed) → x ≡ y → RefusesList 4098 y → writeParsed made ws image buffer y .answer .verdict ≡ 0
+          → Writes made ws image buffer x (writeParsed made ws image buffer x) (commandsOf y)
+      by-parsed (refused f) e q t = absurd (eqb-false (f .number) 0 (q .number) t)
+      by-parsed (accepted cs) e q t =
+          writes cs e (ltb-false (length buffer) (length (made cs)) (fitting-zero (ltb (length buffer) (length (made cs))) ws image buffer _ t))
+
 -- the normaliser does
-pub record Normalises (image ws buffer : List ℕ) (cs : List Command) : Type 0 where
-  pub parsed : parse image ws ≡ accepted cs
-  pub fits : length (wordsAll (form image cs)) ≤ length buffer
-  pub is : normalising ws image buffer ≡ accept ws cs (wordsAll (form image cs)) image buffer
+abbrev pub Normalises : List ℕ → List ℕ → List ℕ → List Command → Type 0
+Normalises image ws buffer cs =
+    Writes (λ ds. wordsAll (form image ds)) ws image buffer (parse image ws) (normalising ws image buffer) cs
 
 module _ (image ws buffer : List ℕ) where
   pub reads : (cs : List Command) → parse image ws ≡ accepted cs → length (records 0 cs) ≤ room buffer → Reads image ws buffer cs
@@ -49,21 +72,12 @@ module _ (image ws buffer : List ℕ) where
 
   pub normalises : (cs : List Command) → parse image ws ≡ accepted cs → length (wordsAll (form image cs)) ≤ length buffer → Normalises image ws buffer cs
   unfolding normalising
-  normalises cs e h =
-      let t : ltb (length buffer) (length (wordsAll (form image cs))) ≡ false = le-ltb (length buffer) (length (wordsAll (form image cs))) h in
-      record { parsed = e; fits = h; is = ap (normaliseParsed ws image buffer) e ∙ rw t }
+  normalises cs e h = writes (λ ds. wordsAll (form image ds)) ws image buffer (parse image ws) cs e h
 
   read-zero : (x : Parsed) → parse image ws ≡ x → RefusesList 4098 x → readParsed ws image buffer x .answer .verdict ≡ 0 → Reads image ws buffer (commandsOf x)
   read-zero (refused f) e r z = absurd (eqb-false (f .number) 0 (r .number) z)
   read-zero (accepted cs) e r z =
       reads cs e (ltb-false (room buffer) (length (records 0 cs)) (fitting-zero (ltb (room buffer) (length (records 0 cs))) ws image buffer _ z))
-
-  normalise-zero : (x : Parsed) → parse image ws ≡ x → RefusesList 4098 x → normaliseParsed ws image buffer x .answer .verdict ≡ 0
-      → Normalises image ws buffer (commandsOf x)
-  normalise-zero (refused f) e r z = absurd (eqb-false (f .number) 0 (r .number) z)
-  normalise-zero (accepted cs) e r z =
-      let n : ℕ = length (wordsAll (form image cs)) in
-      normalises cs e (ltb-false (length buffer) n (fitting-zero (ltb (length buffer) n) ws image buffer _ z))
 
   -- verdict 0 says so
   pub reading-zero : reading ws image buffer .answer .verdict ≡ 0 → Reads image ws buffer (commandsOf (parse image ws))
@@ -72,4 +86,4 @@ module _ (image ws buffer : List ℕ) where
 
   pub normalising-zero : normalising ws image buffer .answer .verdict ≡ 0 → Normalises image ws buffer (commandsOf (parse image ws))
   unfolding normalising
-  normalising-zero z = normalise-zero (parse image ws) refl (parse-refuses image ws) z
+  normalising-zero z = writes-zero (λ ds. wordsAll (form image ds)) ws image buffer (parse image ws) (parse-refuses image ws) z

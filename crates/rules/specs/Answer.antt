@@ -51,11 +51,11 @@ readParsed ws image buffer (accepted cs) =
     fitting (ltb (room buffer) (length (records 0 cs))) ws image buffer
     (accept ws cs (recordWords (records 0 cs)) (final image cs) buffer)
 
-abbrev pub normaliseParsed : List ℕ → List ℕ → List ℕ → Parsed → Outcome
-normaliseParsed ws image buffer (refused f) = refuse f image buffer
-normaliseParsed ws image buffer (accepted cs) =
-    fitting (ltb (length buffer) (length (wordsAll (form image cs)))) ws image buffer
-    (accept ws cs (wordsAll (form image cs)) image buffer)
+-- a call that only reads the image and writes words made of the commands
+abbrev pub writeParsed : (List Command → List ℕ) → List ℕ → List ℕ → List ℕ → Parsed → Outcome
+writeParsed made ws image buffer (refused f) = refuse f image buffer
+writeParsed made ws image buffer (accepted cs) =
+    fitting (ltb (length buffer) (length (made cs))) ws image buffer (accept ws cs (made cs) image buffer)
 
 -- "A reader: from a list, a register image and a record buffer to a verdict, the new image and the records of work."
 unfoldable pub reading : List ℕ → List ℕ → List ℕ → Outcome
@@ -64,7 +64,7 @@ reading ws image buffer = readParsed ws image buffer (parse image ws)
 -- "A normaliser: from a list, a starting image and an output buffer to the normal form. It only reads the image. ..
 -- The normaliser's commands and records are those of the list it was given."
 unfoldable pub normalising : List ℕ → List ℕ → List ℕ → Outcome
-normalising ws image buffer = normaliseParsed ws image buffer (parse image ws)
+normalising ws image buffer = writeParsed (λ cs. wordsAll (form image cs)) ws image buffer (parse image ws)
 
 -- the commands of an accepted list
 abbrev pub commandsOf : Parsed → List Command

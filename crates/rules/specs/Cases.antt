@@ -1,4 +1,4 @@
--- Cases P1 to P12 and N1 to N4, in one table (document 01, "Cases on each side").
+-- Cases P1 to P12 and N1 to N4 (document 01, "Cases on each side") and the guide's own PCI writes, in one table.
 use Prim.Native.Nat.{ℕ}
 use mathlib.Core.Bool.{Bool, true, _&&_}
 use mathlib.Core.List.{List, [], _∷_}
@@ -6,14 +6,18 @@ use lib.Dec.{eqb}
 use lib.ListN.{length, getD, replicate, set}
 use Rattle.rules.specs.Form.{equal}
 use Rattle.rules.specs.Answer.{Outcome, reading, normalising, written}
+use Rattle.rules.specs.Pci.{toPci, fromPci}
 
 -- what a case says of its list: refused with a number at a word, accepted with so many commands, accepted with a word
--- of the new image, accepted with a normal form
+-- of the new image, accepted with a normal form, accepted with its PCI writes; or of its pairs: refused with a number at a
+-- pair
 pub data Want : Type 0 where
   refusedAt : ℕ → ℕ → Want
   commands : ℕ → Want
   imageWord : ℕ → ℕ → Want
   normalFormIs : List ℕ → Want
+  writesAre : List ℕ → Want
+  pairsRefusedAt : ℕ → ℕ → Want
 
 pub record Case : Type 0 where
   pub list : List ℕ
@@ -42,6 +46,10 @@ holds ws image (imageWord i w) = accepts ws image && eqb (getD (reading ws image
 holds ws image (normalFormIs us) =
     (accepts ws image && equal (written (normalising ws image buffer)) us)
     && (accepts us image && equal (reading us image buffer .image) (reading ws image buffer .image))
+holds ws image (writesAre ps) =
+    (answered 0 (length ws) (toPci ws image buffer) && equal (written (toPci ws image buffer)) ps)
+    && (answered 0 (length ws) (fromPci ps image buffer) && equal (written (fromPci ps image buffer)) ws)
+holds ps image (pairsRefusedAt n p) = answered n p (fromPci ps image buffer)
 
 unfoldable pub every : List Case → Bool
 unfolding holds accepts alike answered
@@ -75,4 +83,18 @@ cases =
     ∷ fromZeros (0x02000010 ∷ 0x02000000 ∷ []) (normalFormIs [])
     ∷ fromZeros (0x31800001 ∷ 0x02000005 ∷ []) (normalFormIs (0x02000005 ∷ 0x31800001 ∷ []))
     ∷ record { list = n1; start = set zeros 0x02 0x20; want = normalFormIs (0x00000001 ∷ []) }
+    -- "2804_01000004 (reset 2D engine)" and "2920_48000000 (1st Dword)" with the next three (001, 3)
+    ∷ fromZeros (0x01000004 ∷ []) (writesAre (0x2804 ∷ 0x01000004 ∷ []))
+    ∷ fromZeros (0x48000000 ∷ 0 ∷ 0 ∷ 0 ∷ []) (writesAre (0x2920 ∷ 0x48000000 ∷ 0x2924 ∷ 0 ∷ 0x2928 ∷ 0 ∷ 0x292C ∷ 0 ∷ []))
+    -- a payload group again at the load's own addresses; BEGIN, a group
+    ∷ fromZeros (0x40000001 ∷ 0 ∷ 0 ∷ 0 ∷ 1 ∷ 2 ∷ 3 ∷ 4 ∷ [])
+    (writesAre (0x2900 ∷ 0x40000001 ∷ 0x2904 ∷ 0 ∷ 0x2908 ∷ 0 ∷ 0x290C ∷ 0 ∷ 0x2900 ∷ 1 ∷ 0x2904 ∷ 2 ∷ 0x2908 ∷ 3 ∷ 0x290C ∷ 4 ∷ []))
+    ∷ fromZeros (0x08000000 ∷ 0 ∷ 0 ∷ 0 ∷ []) (writesAre (0x2820 ∷ 0x08000000 ∷ 0x2824 ∷ 0 ∷ 0x2828 ∷ 0 ∷ 0x282C ∷ 0 ∷ []))
+    -- pairs cut inside a command, at its first; a wrong address before the cut, at that pair; an odd last word is no pair
+    ∷ fromZeros (0x2800 ∷ 0 ∷ 0x2920 ∷ 0x48000000 ∷ 0x2924 ∷ 0 ∷ []) (pairsRefusedAt 14 1)
+    ∷ fromZeros (0x2800 ∷ 0 ∷ 0x2920 ∷ 0x48000000 ∷ 0x2928 ∷ 0 ∷ []) (pairsRefusedAt 13 2)
+    ∷ fromZeros (0x2800 ∷ 0 ∷ 0x2920 ∷ 0x48000000 ∷ 0x2924 ∷ 0 ∷ 0x292C ∷ []) (pairsRefusedAt 14 1)
+    -- an unknown id at its own address, and a wrong address behind it
+    ∷ fromZeros (0x280C ∷ 0x03000000 ∷ 0x285C ∷ 0x17000000 ∷ []) (pairsRefusedAt 4 0)
+    ∷ fromZeros (0x285C ∷ 0x17000000 ∷ 0x2801 ∷ 0 ∷ []) (pairsRefusedAt 13 1)
     ∷ []

@@ -10,4 +10,5 @@ pub mod Records
 pub mod Effect
 pub mod Form
 pub mod Answer
+pub mod Pci
 pub mod Cases

@@ -36,7 +36,7 @@ every-from (suc n) i f t (suc k) h =
 
 -- ---- the test
 
-abbrev same : Bool → Bool → Bool
+abbrev pub same : Bool → Bool → Bool
 same true b = b
 same false b = not b
 
@@ -81,13 +81,14 @@ idFits : ℕ → Bool
 idFits id = same (beginId id) (beginTest id) && (eqb (settingKind id) (kindTest id) && same (groupId id) (groupTest id))
 
 -- of a known id: its row is below 16, with the row's masks and its size; four words where values have rules; its kind and
--- what it leaves by its row
+-- what it leaves by its row; a BEGIN has four words, and a surface base one
 rowFits : ℕ → Option Row → Bool
 rowFits id none = eqb (rowNumber id) 16
 rowFits id (some r) =
     (eqb (r .id) id && ltb (rowNumber id) 16) && (equal (listOf (rowMasks (rowNumber id))) (listOf (masksOf r)) && (eqb (length (r .more)) (cond (groupId id) 3 0)
     && ((not (ruled id) || groupId id) && (same (groupId id) (knownGroupTest id) && (same (isSetting (r .kind)) (leb (cond (groupId id) clipRow timerRow) (rowNumber id))
-    && (leavesAs (r .kind) id && (same (isBegin (r .kind)) (eqb (rowNumber id) beginRow) && same (isBase id) (eqb (rowNumber id) baseRow))))))))
+    && (leavesAs (r .kind) id && (same (isBegin (r .kind)) (eqb (rowNumber id) beginRow)
+    && (same (isBase id) (eqb (rowNumber id) baseRow) && not (cond (groupId id) (isBase id) (isBegin (r .kind)))))))))))
 
 fitsAt : ℕ → Bool
 fitsAt id = idFits id && rowFits id (rowOf id)
@@ -110,8 +111,9 @@ pub record Known (id : ℕ) : Type 0 where
   pub leaves : leavesAs (rowAt id .kind) id ≡ true
   pub begins : isBegin (rowAt id .kind) ≡ eqb (rowNumber id) beginRow
   pub base : isBase id ≡ eqb (rowNumber id) baseRow
+  pub apart : cond (groupId id) (isBase id) (isBegin (rowAt id .kind)) ≡ false
 
-same-true : (a b : Bool) → same a b ≡ true → a ≡ b
+pub same-true : (a b : Bool) → same a b ≡ true → a ≡ b
 same-true true b e = sym e
 same-true false b e = sym (not-true b e)
 
@@ -133,6 +135,7 @@ module _ (id : ℕ) where
       let t₅ = and-right (same (groupId id) (knownGroupTest id)) _ t₄ in
       let t₆ = and-right (same (isSetting (r .kind)) (leb (cond (groupId id) clipRow timerRow) n)) _ t₅ in
       let t₇ = and-right (leavesAs (r .kind) id) _ t₆ in
+      let t₈ = and-right (same (isBegin (r .kind)) (eqb n beginRow)) _ t₇ in
       record {
         small = ltb-true n 16 (and-right (eqb (r .id) id) _ p);
         found = e ∙ ap some (sym is);
@@ -144,7 +147,8 @@ module _ (id : ℕ) where
         setting-row = ap (λ (x : Row). isSetting (x .kind)) is ∙ same-true (isSetting (r .kind)) (leb (cond (groupId id) clipRow timerRow) n) (and-left (same (isSetting (r .kind)) (leb (cond (groupId id) clipRow timerRow) n)) _ t₅);
         leaves = ap (λ (x : Row). leavesAs (x .kind) id) is ∙ and-left (leavesAs (r .kind) id) _ t₆;
         begins = ap (λ (x : Row). isBegin (x .kind)) is ∙ same-true (isBegin (r .kind)) (eqb n beginRow) (and-left (same (isBegin (r .kind)) (eqb n beginRow)) _ t₇);
-        base = same-true (isBase id) (eqb n baseRow) (and-right (same (isBegin (r .kind)) (eqb n beginRow)) _ t₇);
+        base = same-true (isBase id) (eqb n baseRow) (and-left (same (isBase id) (eqb n baseRow)) _ t₈);
+        apart = ap (λ (x : Row). cond (groupId id) (isBase id) (isBegin (x .kind))) is ∙ not-true (cond (groupId id) (isBase id) (isBegin (r .kind))) (and-right (same (isBase id) (eqb n baseRow)) _ t₈);
       }
 
   by-row : (o : Option Row) → rowOf id ≡ o → rowFits id o ≡ true → rowNumber id < 16 → Known id

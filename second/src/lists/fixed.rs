@@ -4,7 +4,7 @@ use super::commands::{
     bits_of_word, clip, first_word, load_word, rows, table, valid, zeros, BEGINS, GROUPS,
     LEGAL_CODES, SURFACE_BASES,
 };
-use super::{plain, with_buffers, with_surroundings, Case, Image, Purpose};
+use super::{pairs, plain, with_buffers, with_surroundings, Case, Image, Purpose};
 use crate::paper;
 use crate::prng::{self, Prng};
 use crate::rules::{self, Kind, Row, IMAGE_WORDS, MAX_LIST_WORDS};
@@ -58,6 +58,20 @@ fn sets() -> Vec<Set> {
         set("settings in any order", setting_orders(), EveryShort),
         set("sizes", sizes(), Every),
         set("other sizes", other_sizes(), Nothing),
+        set("pairs: cases of 01 and the guide", pairs::of_papers(), Every),
+        set("pairs: every id", pairs::every_id(), Every),
+        set("pairs: commands", pairs::of_commands(), Every),
+        set("pairs: other addresses", pairs::other_addresses(), Every),
+        set("pairs: every bit of an address", pairs::address_bits(), Every),
+        set("pairs: misread addresses", pairs::misread_addresses(), Every),
+        set("pairs: cuts", pairs::cuts(), Every),
+        set("pairs: a wrong address, then a cut", pairs::cut_behind_wrong_address(), Every),
+        set("pairs: odd words", pairs::odd_words(), Every),
+        set("pairs: loads", pairs::loads(), Every),
+        set("pairs: refused lists", pairs::refused_lists(), Every),
+        set("pairs: bits and limits of the lists", pairs::bits_and_limits(), Every),
+        set("pairs: sizes", pairs::sizes(), Every),
+        set("pairs: other sizes", pairs::other_sizes(), Nothing),
     ]
 }
 
@@ -78,7 +92,8 @@ pub fn fixed_cases() -> Vec<Case> {
 
 /// Cases with surroundings of their own, all in the vectors file.
 fn stored_whole() -> Vec<Case> {
-    [equal_settings(), defined_part(), image_lengths(), buffer_lengths()].concat()
+    let lists = [equal_settings(), defined_part(), image_lengths(), buffer_lengths()];
+    [lists.concat(), pairs::image_lengths(), pairs::buffer_lengths()].concat()
 }
 
 /// A sample of the sets that fits a small file. Sets that are stored whole get a zero image and
@@ -110,7 +125,7 @@ pub fn fixed_sample() -> Vec<Case> {
     cases
 }
 
-fn papers() -> Vec<Vec<u32>> {
+pub fn papers() -> Vec<Vec<u32>> {
     let mut lists: Vec<Vec<u32>> = paper::CASES.iter().map(|case| case.list.to_vec()).collect();
     lists.push(paper::LISTING_WORDS.to_vec());
     lists
@@ -146,7 +161,7 @@ fn every_id() -> Vec<Vec<u32>> {
 }
 
 /// Each bit below the id of each word, alone: those in the masks, or those outside.
-fn every_bit(defined: bool) -> Vec<Vec<u32>> {
+pub fn every_bit(defined: bool) -> Vec<Vec<u32>> {
     let mut lists = Vec::new();
     for row in table() {
         for (k, mask) in row.masks.iter().enumerate() {
@@ -168,7 +183,7 @@ fn every_bit_not_first() -> Vec<Vec<u32>> {
     all.into_iter().map(within).collect()
 }
 
-fn every_load_bit() -> Vec<Vec<u32>> {
+pub fn every_load_bit() -> Vec<Vec<u32>> {
     let mut lists = Vec::new();
     for code in LEGAL_CODES {
         for k in 0..4 {
@@ -182,7 +197,7 @@ fn every_load_bit() -> Vec<Vec<u32>> {
     lists
 }
 
-fn all_defined_bits() -> Vec<Vec<u32>> {
+pub fn all_defined_bits() -> Vec<Vec<u32>> {
     let mut lists = Vec::new();
     for row in table() {
         let mut all = zeros(row);
@@ -197,7 +212,7 @@ fn all_defined_bits() -> Vec<Vec<u32>> {
     lists
 }
 
-fn load_codes() -> Vec<Vec<u32>> {
+pub fn load_codes() -> Vec<Vec<u32>> {
     let mut lists = Vec::new();
     for code in 0..8 {
         for convert in [false, true] {
@@ -232,7 +247,7 @@ fn load_lengths() -> Vec<Vec<u32>> {
     lists
 }
 
-fn plane_ranges() -> Vec<Vec<u32>> {
+pub fn plane_ranges() -> Vec<Vec<u32>> {
     let mut lists = Vec::new();
     for offset in [0, 1, 2, 4, 6, 7, 8, 9, 10, 12, 16, 32, 64, 128, 256, 511] {
         for length in [0, 1, 2, 4, 6, 7, 8, 9] {
@@ -252,7 +267,7 @@ fn plane_ranges() -> Vec<Vec<u32>> {
 }
 
 /// Each bit of a length over the limit, with the whole payload: only the plane range refuses them.
-fn planes_with_payload() -> Vec<Vec<u32>> {
+pub fn planes_with_payload() -> Vec<Vec<u32>> {
     let planes = |length: u32| {
         let mut list = vec![load_word(false, 5, 0, length), 0, 0, 0];
         list.resize(4 + 4 * length as usize, 0);
@@ -287,7 +302,7 @@ fn payload_like_commands() -> Vec<Vec<u32>> {
     lists
 }
 
-fn clip_limits() -> Vec<Vec<u32>> {
+pub fn clip_limits() -> Vec<Vec<u32>> {
     let mut lists = Vec::new();
     for bank in 0..4 {
         let limit = [15, 11, 6, 15][bank as usize];
@@ -318,7 +333,7 @@ fn clip_table() -> Vec<Vec<u32>> {
     lists
 }
 
-fn raster_bits() -> Vec<Vec<u32>> {
+pub fn raster_bits() -> Vec<Vec<u32>> {
     let mut lists = Vec::new();
     for pages in [0, 1 << 22] {
         for full_page in [0, 1 << 14] {
@@ -330,7 +345,7 @@ fn raster_bits() -> Vec<Vec<u32>> {
     lists
 }
 
-fn primitive_words() -> Vec<Vec<u32>> {
+pub fn primitive_words() -> Vec<Vec<u32>> {
     let mut lists = Vec::new();
     for used in 0..16 {
         for value in [0x000001, 0x800000] {
@@ -341,7 +356,7 @@ fn primitive_words() -> Vec<Vec<u32>> {
     lists
 }
 
-fn after_base() -> Vec<Vec<u32>> {
+pub fn after_base() -> Vec<Vec<u32>> {
     let mut lists = Vec::new();
     for base in SURFACE_BASES {
         let base = first_word(base, 0x800123);
@@ -397,7 +412,7 @@ fn group_cuts() -> Vec<Vec<u32>> {
 }
 
 /// Two faults, where the order decides which one is told.
-fn two_faults() -> Vec<Vec<u32>> {
+pub fn two_faults() -> Vec<Vec<u32>> {
     vec![
         // Undefined bits in two words: the lowest.
         vec![0x88180000, 0xFF000000, 0, 0],
@@ -587,7 +602,7 @@ fn image_lengths() -> Vec<Case> {
             let case = plain("image lengths", list.clone(), Purpose::Store);
             let room = if k % 2 == 0 { 0 } else { 8 };
             let image = Image::Seeded { seed: len as u32 * k as u32, len };
-            cases.push(Case { image, records_len: room, out_len: room, ..case });
+            cases.push(Case { image, ..with_room(room, case) });
         }
     }
     // Too many words, ahead of the image and of the room.
@@ -595,20 +610,24 @@ fn image_lengths() -> Vec<Case> {
         let list = [&[FLUSH], &timers(MAX_LIST_WORDS)[..]].concat();
         let case = plain("image lengths", list, Purpose::Store);
         let image = Image::Seeded { seed: 1, len };
-        cases.push(Case { image, records_len: room, out_len: room, ..case });
+        cases.push(Case { image, ..with_room(room, case) });
     }
     cases
 }
 
-/// A list with three records and a form of nine words, and one with neither.
+fn with_room(room: usize, case: Case) -> Case {
+    Case { records_len: room, out_len: room, pci_len: room, ..case }
+}
+
+/// A list with three records, a form of nine words and nine pairs, and one with neither of the
+/// first two.
 fn buffer_lengths() -> Vec<Case> {
     let both = vec![0x02000010, FLUSH, 0x8C000001, 1, 2, 3, FLUSH, 0x02000011, 0x05000001];
     let neither = vec![0x02000010, 0x02000000];
     let mut cases = Vec::new();
     for list in [both, neither] {
-        for room in 0..=18 {
-            let case = plain("buffer lengths", list.clone(), Purpose::Store);
-            cases.push(Case { records_len: room, out_len: room, ..case });
+        for room in 0..=20 {
+            cases.push(with_room(room, plain("buffer lengths", list.clone(), Purpose::Store)));
         }
     }
     cases

@@ -26,6 +26,27 @@ pub fn random_case(rng: &mut Prng, purpose: Purpose) -> Case {
     with_surroundings(rng, class, list, purpose)
 }
 
+/// Lists of which most are accepted.
+pub fn any_list(rng: &mut Prng, purpose: Purpose) -> Vec<u32> {
+    let words = any_length(rng, purpose);
+    match rng.below(4) {
+        0 => flip_list(rng, words),
+        1 => load_list(rng, words),
+        _ => valid_list(rng, words),
+    }
+}
+
+/// Lists of which most are refused.
+pub fn any_refused_list(rng: &mut Prng, purpose: Purpose) -> Vec<u32> {
+    let words = any_length(rng, purpose);
+    match rng.below(4) {
+        0 => near_list(rng, words),
+        1 => damaged_list(rng, words),
+        2 => known_id_list(rng, words),
+        _ => list_with_refusal(rng, words),
+    }
+}
+
 fn any_length(rng: &mut Prng, purpose: Purpose) -> usize {
     match (purpose, rng.below(20)) {
         (Purpose::Store, _) => 1 + rng.below(14),
@@ -225,7 +246,7 @@ fn random_words(rng: &mut Prng, words: usize) -> Vec<u32> {
 }
 
 /// Lists at the largest length and next to it.
-fn long_list(rng: &mut Prng) -> Vec<u32> {
+pub fn long_list(rng: &mut Prng) -> Vec<u32> {
     let max = MAX_LIST_WORDS;
     let words = rng.pick(&[max - 1, max, max, max, max + 1, max + 1, max + 5, 2 * max, 10_000]);
     let mut list = if rng.once_in(2) { valid_list(rng, words) } else { load_list(rng, words) };

@@ -9,6 +9,8 @@ use crate::vary::Vary;
 pub struct Mutant {
     pub name: String,
     change: Change,
+    /// The function that the change is in, where it is one alone.
+    function: Option<Function>,
 }
 
 enum Change {
@@ -17,34 +19,51 @@ enum Change {
     Listing(Box<ListingChange>),
 }
 
-/// What document 01 gives for a case, changed.
-pub type OutcomeChange = dyn Fn(Function, &Case, Outcome) -> Outcome;
+/// What the documents give for a case, changed.
+pub type OutcomeChange = dyn Fn(Function, &Case, Outcome) -> Outcome + Sync;
 
 /// The text for an input, made otherwise.
-pub type ListingChange = dyn Fn(&[u8]) -> String;
+pub type ListingChange = dyn Fn(&[u8]) -> String + Sync;
 
 impl Mutant {
     pub fn of_rules(name: String, rules: Rules) -> Mutant {
-        Mutant { name, change: Change::Rules(Box::new(rules)) }
+        let function = changed_alone(&rules);
+        Mutant { name, change: Change::Rules(Box::new(rules)), function }
     }
 
     pub fn of_outcome(
         name: String,
-        change: impl Fn(Function, &Case, Outcome) -> Outcome + 'static,
+        change: impl Fn(Function, &Case, Outcome) -> Outcome + Sync + 'static,
     ) -> Mutant {
-        Mutant { name, change: Change::Outcome(Box::new(change)) }
+        Mutant { name, change: Change::Outcome(Box::new(change)), function: None }
     }
 
-    pub fn of_listing(name: &str, change: impl Fn(&[u8]) -> String + 'static) -> Mutant {
-        Mutant { name: name.into(), change: Change::Listing(Box::new(change)) }
+    pub fn of_outcome_of(
+        function: Function,
+        name: String,
+        change: impl Fn(&Case, Outcome) -> Outcome + Sync + 'static,
+    ) -> Mutant {
+        let change = move |_, case: &Case, outcome| change(case, outcome);
+        Mutant { name, change: Change::Outcome(Box::new(change)), function: Some(function) }
+    }
+
+    pub fn of_listing(name: &str, change: impl Fn(&[u8]) -> String + Sync + 'static) -> Mutant {
+        Mutant { name: name.into(), change: Change::Listing(Box::new(change)), function: None }
+    }
+
+    /// The change may be in what the function gives.
+    pub fn concerns(&self, function: Function) -> bool {
+        self.function.is_none_or(|alone| alone == function)
     }
 
     pub fn run(&self, function: Function, case: &Case) -> Outcome {
         let paper = rules::paper();
         match &self.change {
             Change::Rules(rules) => outcome::of(function, rules, case),
-            Change::Outcome(change) => change(function, case, outcome::of(function, paper, case)),
-            Change::Listing(_) => outcome::of(function, paper, case),
+            Change::Outcome(change) if self.concerns(function) => {
+                change(function, case, outcome::of(function, paper, case))
+            }
+            _ => outcome::of(function, paper, case),
         }
     }
 
@@ -64,6 +83,16 @@ impl Mutant {
             Change::Listing(_) => true,
         }
     }
+}
+
+fn changed_alone(changed: &Rules) -> Option<Function> {
+    let (paper, other) = (|| Rules::paper(), || changed.clone());
+    let of_one = [
+        (Function::Normaliser, Rules { form: other().form, ..paper() }),
+        (Function::ToPci, Rules { to_pci: other().to_pci, ..paper() }),
+        (Function::FromPci, Rules { from_pci: other().from_pci, ..paper() }),
+    ];
+    of_one.into_iter().find(|(_, rules)| rules == changed).map(|(function, _)| function)
 }
 
 pub fn all() -> Vec<Mutant> {

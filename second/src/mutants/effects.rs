@@ -1,27 +1,25 @@
-//! Answers and lent words other than document 01's, for each verdict by itself.
+//! Answers and lent words other than the documents', for each verdict by itself.
 
 mod by_id;
+mod pci;
 
 use super::changes::Mutant;
 use crate::lists::Case;
 use crate::outcome::{Function, Outcome};
 use crate::rules::{self, put, IMAGE_WORDS};
 
-const FUNCTIONS: [(Function, &str); 2] =
-    [(Function::Reader, "reader"), (Function::Normaliser, "normaliser")];
 const NUMBERS: [&str; 5] = ["verdict", "position", "commands", "records", "words"];
 const POSITION: usize = 1;
 const COMMANDS: usize = 2;
 const RECORDS: usize = 3;
 const WORDS: usize = 4;
-/// Those of the reader and the normaliser.
-const LAST_VERDICT: u32 = 11;
 
 pub fn all() -> Vec<Mutant> {
     let mut all = Vec::new();
-    for (function, name) in FUNCTIONS {
-        for verdict in 0..=LAST_VERDICT {
-            let at = Place { function, verdict, name: format!("{name}, verdict {verdict}") };
+    for function in Function::ALL {
+        for verdict in function.verdicts() {
+            let name = format!("{}, verdict {verdict}", function.name());
+            let at = Place { function, verdict, name };
             all.extend(numbers(&at));
             all.extend(lent_words(&at));
             match verdict {
@@ -31,6 +29,7 @@ pub fn all() -> Vec<Mutant> {
             }
         }
     }
+    all.extend(pci::all());
     all.extend(image_words());
     all.extend(by_id::all());
     all.push(applied_from_the_end());
@@ -47,11 +46,11 @@ struct Place {
 }
 
 impl Place {
-    fn change(&self, what: &str, change: impl Fn(&Case, &mut Outcome) + 'static) -> Mutant {
+    fn change(&self, what: &str, change: impl Fn(&Case, &mut Outcome) + Sync + 'static) -> Mutant {
         let place = self.clone();
         let name = format!("{}: {what}", self.name);
-        Mutant::of_outcome(name, move |function, case, mut outcome| {
-            if function == place.function && outcome.answer[0] == place.verdict {
+        Mutant::of_outcome_of(self.function, name, move |case, mut outcome| {
+            if outcome.answer[0] == place.verdict {
                 change(case, &mut outcome);
             }
             outcome
@@ -129,31 +128,59 @@ fn accepted(at: &Place) -> Vec<Mutant> {
 /// What the commands before the refused one do, done in spite of it.
 fn done_before_refusal(at: &Place) -> Vec<Mutant> {
     let paper = rules::paper();
+    let function = at.function;
     let mut all = vec![
-        at.change("commands before it counted", |case, outcome| {
-            outcome.answer[COMMANDS] = paper.walk(&case.list).0.len() as u32;
+        at.change("commands before it counted", move |case, outcome| {
+            let list = function.list_before(case, outcome);
+            outcome.answer[COMMANDS] = paper.walk(&list).0.len() as u32;
         }),
-        at.change("records before it counted", |case, outcome| {
-            let commands = paper.walk(&case.list).0;
+        at.change("records before it counted", move |case, outcome| {
+            let list = function.list_before(case, outcome);
+            let commands = paper.walk(&list).0;
             outcome.answer[RECORDS] = commands.iter().filter(|c| c.is_work()).count() as u32;
         }),
     ];
-    if at.function == Function::Normaliser {
-        all.push(at.change("form before it written", |case, outcome| {
-            let form = paper.normal_form(&paper.walk(&case.list).0, &case.image.words());
-            put(&mut outcome.buffer, &form);
-        }));
-        return all;
-    }
-    all.push(at.change("commands before it applied", |case, outcome| {
-        for command in paper.walk(&case.list).0 {
-            paper.apply(&command, &mut outcome.image);
+    match function {
+        Function::Reader => {
+            all.push(at.change("commands before it applied", |case, outcome| {
+                for command in paper.walk(&case.list).0 {
+                    paper.apply(&command, &mut outcome.image);
+                }
+            }));
+            all.push(at.change("records before it written", |case, outcome| {
+                put(&mut outcome.buffer, &paper.records(&paper.walk(&case.list).0).concat());
+            }));
         }
-    }));
-    all.push(at.change("records before it written", |case, outcome| {
-        put(&mut outcome.buffer, &paper.records(&paper.walk(&case.list).0).concat());
-    }));
+        Function::Normaliser => {
+            all.push(at.change("form before it written", |case, outcome| {
+                let form = paper.normal_form(&paper.walk(&case.list).0, &case.image.words());
+                put(&mut outcome.buffer, &form);
+            }));
+        }
+        Function::ToPci => {
+            all.push(at.change("pairs before it written", |case, outcome| {
+                put(&mut outcome.buffer, &paper.pairs_of(&paper.walk(&case.list).0));
+            }));
+        }
+        Function::FromPci => {
+            all.push(at.change("list before it written", move |case, outcome| {
+                let list = function.list_before(case, outcome);
+                put(&mut outcome.buffer, &list[..outcome.answer[POSITION] as usize]);
+            }));
+        }
+    }
     all
+}
+
+impl Function {
+    /// The list that it reads, up to a wrong pair or a cut command.
+    fn list_before(self, case: &Case, outcome: &Outcome) -> Vec<u32> {
+        let mut list = self.list_of(case);
+        if let [13 | 14, pair, ..] = outcome.answer {
+            list.truncate(pair as usize);
+        }
+        list
+    }
 }
 
 /// Each word of the image changed by an accepted list.

@@ -11,7 +11,6 @@ const REASONS: &[Reason] = &[
         &[
             "table: 40: payload: groups: bits 9..0, *",
             "table: 40: fault 5: test: second: left: second: bits 9..0, *",
-            "everywhere: load length: bits 9..0, *",
         ],
     ),
     (
@@ -143,6 +142,14 @@ const REASONS: &[Reason] = &[
         "at each work command the form brings its settings to the list's, so that both images \
          agree there",
         &["form: *: compared with: LastWork"],
+    ),
+    (
+        "the list of the pairs is what is written: as many words as it has",
+        &[
+            "from pci: room: verdict 11: when: test: left: quantity: ListWords",
+            "from_pci, verdict 0: words for position",
+            "from_pci, verdict 0: position for words",
+        ],
     ),
     (
         "no rule reads the image, and the listing doesn't show it",

@@ -1,4 +1,6 @@
-//! Refusals in other orders than document 01's, beyond those of two neighbours.
+//! Refusals in other orders than the documents', beyond those of two neighbours.
+
+mod pci;
 
 use super::changes::Mutant;
 use crate::lists::{Case, Image};
@@ -20,6 +22,7 @@ pub fn all() -> Vec<Mutant> {
     }
     all.push(Mutant::of_outcome("order: the empty list refused".into(), empty_refused));
     all.push(Mutant::of_listing("order: verdict 12 behind the commands", part_word_last));
+    all.extend(pci::all());
     all
 }
 
@@ -53,7 +56,8 @@ fn moved_behind_commands() -> Vec<Mutant> {
         let check = rules.before_commands.remove(k);
         let name = format!("order: verdict {} behind the commands", check.verdict);
         rules.room_for_records.insert(0, check.clone());
-        rules.room_for_form.insert(0, check);
+        rules.room_for_form.insert(0, check.clone());
+        rules.to_pci.room.insert(0, check);
         Mutant::of_rules(name, rules)
     };
     (0..paper.before_commands.len()).map(moved).collect()
@@ -65,9 +69,9 @@ fn checked_in_passes() -> Vec<Mutant> {
     let passes = |k: usize| {
         let first_pass = with_each_command(checks[..k].to_vec());
         let name = format!("order: {} of all commands first", checks[k - 1].verdict);
-        Mutant::of_outcome(name, move |_, case, outcome| {
+        Mutant::of_outcome(name, move |function, case, outcome| {
             let refused = (3..=10).contains(&outcome.answer[0]);
-            match first_pass.walk(&case.list).1 {
+            match first_pass.walk(&function.list_of(case)).1 {
                 Some(refusal) if refused => refused_with(refusal, outcome),
                 _ => outcome,
             }
@@ -88,7 +92,7 @@ fn not_of_every_command() -> Vec<Mutant> {
             let verdict = check.verdict;
             let name = format!("order: verdict {verdict} for {which}");
             all.push(Mutant::of_outcome(name, move |function, case, outcome| {
-                let in_first = rules::paper().walk(&case.list).0.is_empty();
+                let in_first = rules::paper().walk(&function.list_of(case)).0.is_empty();
                 match outcome.answer[0] == verdict && in_first != first {
                     true => outcome::of(function, &without, case),
                     false => outcome,
@@ -108,16 +112,17 @@ fn end_of(commands: &[Command]) -> usize {
 }
 
 /// The refusal that the list has behind its refused command.
-fn later_refusal(_: Function, case: &Case, outcome: Outcome) -> Outcome {
+fn later_refusal(function: Function, case: &Case, outcome: Outcome) -> Outcome {
     let paper = rules::paper();
     if !(3..=10).contains(&outcome.answer[0]) {
         return outcome;
     }
-    let refused = &case.list[end_of(&paper.walk(&case.list).0)..];
+    let list = function.list_of(case);
+    let refused = &list[end_of(&paper.walk(&list).0)..];
     let row = paper.row_of(refused[0] >> 24);
     let length = row.map_or(1, |row| row.length(&refused[..row.own_words().min(refused.len())]));
     let rest = &refused[length.min(refused.len())..];
-    let before_rest = case.list.len() - rest.len();
+    let before_rest = list.len() - rest.len();
     match paper.walk(rest).1 {
         Some(Refusal { verdict, position }) => {
             refused_with(Refusal { verdict, position: before_rest + position }, outcome)
@@ -132,16 +137,19 @@ fn no_room_as_met(function: Function, case: &Case, outcome: Outcome) -> Outcome 
     if !(3..=10).contains(&outcome.answer[0]) {
         return outcome;
     }
-    let commands = paper.walk(&case.list).0;
+    let list = function.list_of(case);
+    let commands = paper.walk(&list).0;
     let fits = match function {
         Function::Reader => paper.records(&commands).len() <= paper.record_room(case.records_len),
         Function::Normaliser => {
             paper.normal_form(&commands, &case.image.words()).len() <= case.out_len
         }
+        Function::ToPci => paper.pairs_of(&commands).len() <= case.pci_len,
+        Function::FromPci => end_of(&commands) <= case.pci_len,
     };
     match fits {
         true => outcome,
-        false => refused_with(Refusal { verdict: 11, position: case.list.len() }, outcome),
+        false => refused_with(Refusal { verdict: 11, position: list.len() }, outcome),
     }
 }
 
@@ -149,6 +157,7 @@ fn no_room_as_met(function: Function, case: &Case, outcome: Outcome) -> Outcome 
 fn no_room_without(k: usize, function: Function, case: &Case, outcome: Outcome) -> Outcome {
     let mut rules = Rules::paper();
     let check = rules.before_commands.remove(k);
+    rules.from_pci.before_pairs.remove(k);
     if outcome.answer[0] != check.verdict {
         return outcome;
     }

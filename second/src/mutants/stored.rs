@@ -5,13 +5,16 @@ use crate::listings;
 use crate::lists::Case;
 use crate::outcome::{self, Function};
 use crate::rules;
-use crate::vectors;
+use crate::vectors::{self, Part};
 use std::fs;
 use std::io;
 use std::path::Path;
 
+/// A case, and what each function's outcome adds to its digest.
+type Vector = (Case, [Part; Function::ALL.len()]);
+
 pub struct Stored {
-    vectors: Vec<(Case, u32)>,
+    vectors: Vec<Vector>,
     listings: Vec<(&'static str, Vec<u8>)>,
 }
 
@@ -37,9 +40,9 @@ impl Stored {
             }
         }
         let of_case = |case: Case| {
-            let digest =
-                vectors::digest_of(|function| outcome::of(function, rules::paper(), &case));
-            (case, digest)
+            let part = |function| Part::of(function, &outcome::of(function, rules::paper(), &case));
+            let parts = Function::ALL.map(part);
+            (case, parts)
         };
         let vectors = vectors::stored_cases().into_iter().map(of_case).collect();
         Ok(Stored { vectors, listings: listings::stored_inputs() })
@@ -47,8 +50,12 @@ impl Stored {
 
     /// The first case whose digest, or else the first input whose listing, isn't the stored one.
     pub fn first_to_see(&self, mutant: &Mutant) -> Option<Seen> {
-        let differs = |(_, (case, digest)): &(usize, &(Case, u32))| {
-            vectors::digest_of(|function| mutant.run(function, case)) != *digest
+        let differs = |(_, (case, parts)): &(usize, &Vector)| {
+            let mut changed = *parts;
+            for function in Function::ALL.into_iter().filter(|f| mutant.concerns(*f)) {
+                changed[function as usize] = Part::of(function, &mutant.run(function, case));
+            }
+            vectors::digest_of_parts(changed) != vectors::digest_of_parts(*parts)
         };
         if !mutant.is_of_listing() {
             if let Some((k, (case, _))) = self.vectors.iter().enumerate().find(differs) {
@@ -69,7 +76,7 @@ fn difference(mutant: &Mutant, case: &Case) -> String {
         let expected = outcome::of(function, rules::paper(), case);
         outcome::difference(function, &mutant.run(function, case), &expected)
     };
-    of(Function::Reader).or_else(|| of(Function::Normaliser)).unwrap_or_default()
+    Function::ALL.into_iter().find_map(of).unwrap_or_default()
 }
 
 /// The case's class and the first words of its list.

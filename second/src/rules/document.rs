@@ -1,4 +1,4 @@
-//! Document 01 as a value: each part under its sentence.
+//! Document 01, and Ticket 1 of document 02, as a value: each part under its sentence.
 
 use super::language::{Field, Mask, Quantity, Set, Test, Value};
 use super::shape::*;
@@ -18,7 +18,8 @@ const DEPTH: &[u32] = &[0xFFFFFF, 0x00FFFFFF, 0x0FFF0FFF, 0x0FFF0FFF];
 const LOD_BIAS: &[u32] = &[0x000000, 0xFFFFFFFF, 0xFFFFFFFF, 0xFFFFFFFF];
 
 parts! {
-    /// Fields that the papers name, and the image word of every BEGIN. Several rules use some.
+    /// Fields that the papers name, the image word of every BEGIN, the addresses over PCI. Several
+    /// rules use some.
     pub struct Terms {
         pub id: Field,
         pub header: Field,
@@ -32,6 +33,7 @@ parts! {
         pub page_based: Field,
         pub full_page: Field,
         pub begin_word: usize,
+        pub addresses: Addresses,
     }
 }
 
@@ -57,6 +59,7 @@ impl Terms {
             full_page: Field::bit(0, 14),
             // "Any BEGIN puts its header in word 08."
             begin_word: 0x08,
+            addresses: addresses(),
         }
     }
 }
@@ -72,7 +75,7 @@ impl Rules {
             tested_header: terms.header,
             left_header: terms.header,
             // "Ids 03 and 04 go only through PCI."
-            pci: Set { members: vec![0x03, 0x04], below: 256 },
+            pci: ids(&[0x03, 0x04]),
             table: Table(table(terms)),
             before_commands: before_commands(),
             each_command: each_command(),
@@ -85,6 +88,8 @@ impl Rules {
             records: records(terms),
             form: form(),
             listing: listing(),
+            to_pci: to_pci(terms),
+            from_pci: from_pci(terms),
         }
     }
 }
@@ -145,8 +150,11 @@ fn setting(id: u32, masks: &[u32]) -> Row {
 
 /// "The group is followed by length groups of four words."
 fn load(id: u32, terms: &Terms) -> Row {
-    let payload = Payload { groups: terms.load_length, more_groups: 0, group_words: 4 };
-    Row { payload: Some(payload), faults: load_faults(terms), ..work(id, LOAD) }
+    Row { payload: Some(payload(terms)), faults: load_faults(terms), ..work(id, LOAD) }
+}
+
+fn payload(terms: &Terms) -> Payload {
+    Payload { groups: terms.load_length, more_groups: 0, group_words: 4 }
 }
 
 fn illegal(word: usize, test: Test) -> Fault {
@@ -310,5 +318,65 @@ fn listing() -> Listing {
         // "A refusal prints only `refused N at P`."
         refused: "refused ".into(),
         at: " at ".into(),
+    }
+}
+
+fn addresses() -> Addresses {
+    Addresses {
+        // "a one-word command goes to 2800 hex plus id × 4"
+        base: Mask { bits: 0x2800, width: 32 },
+        id_of: IdOf::Command,
+        with_id: WithId::FourTimes,
+        // "A group's four words go there and to the next three addresses in steps of 4."
+        step: 4,
+        group_words: 4,
+        // "Each payload group of a load uses the load's own four addresses again."
+        payload: PayloadAddresses::StartAgain,
+    }
+}
+
+fn ids(members: &[u32]) -> Set {
+    Set { members: members.to_vec(), below: 256 }
+}
+
+fn to_pci(terms: &Terms) -> ToPci {
+    ToPci {
+        id: terms.id,
+        addresses: terms.addresses.clone(),
+        // "BEGIN counts as a group"
+        begin: BeginWords::Group,
+        // "Pairs lie in one word buffer, address first"
+        pair: vec![PairWord::Address, PairWord::Value],
+        room: room(),
+    }
+}
+
+fn from_pci(terms: &Terms) -> FromPci {
+    use Position::{FirstWord, ThatWord};
+    FromPci {
+        pair_words: 2,
+        address: 0,
+        value: 1,
+        // "an odd last word is ignored"
+        odd_word: OddWord::Ignored,
+        id: terms.id,
+        addresses: terms.addresses.clone(),
+        compared: Mask { bits: !0, width: 32 },
+        // "BEGIN counts as a group", "an unknown id, 03 or 04 counts as one word"
+        groups: ids(&[0x08, 0x0C, 0x10, 0x14, 0x40, 0x48, 0x84, 0x88, 0x8C, 0x90, 0xC4]),
+        // "a load's length is always its header's"
+        loads: ids(&[0x40]),
+        payload: payload(terms),
+        // "Order there: 1, 2", for a list of one word from each pair
+        before_pairs: before_commands(),
+        // "13 or 14 as the pairs are met (13 first inside a cut command)"
+        each_command: vec![
+            // "a pair whose address isn't the expected one, at that pair's number"
+            Check { verdict: 13, when: When::WrongAddress(WhichWord::Lowest), position: ThatWord },
+            // "pairs that stop inside a command", "at the command's first pair"
+            check(14, Quantity::WordsLeft.fewer_than(Quantity::Length), FirstWord),
+        ],
+        // "then 3 to 10 of the list recovered, then 11"
+        room: room(),
     }
 }

@@ -107,6 +107,15 @@ pub struct Facts<'a> {
     pub input_bytes: usize,
     /// Input bytes behind the last whole word.
     pub spare_bytes: usize,
+    /// Of the command's pairs, as far as they are there.
+    pub addresses: &'a [Address],
+}
+
+/// The address of a pair, and the one expected there.
+#[derive(Clone, Copy)]
+pub struct Address {
+    pub given: u32,
+    pub expected: u32,
 }
 
 impl Facts<'_> {

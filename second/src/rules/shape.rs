@@ -5,7 +5,7 @@ use super::language::{Facts, Field, Mask, Set, Test};
 use crate::vary::{choices, parts};
 
 parts! {
-    /// The rules of reading, of the normal form and of the listing.
+    /// The rules of reading, of the normal form, of the listing and of the writes over PCI.
     pub struct Rules {
         pub id: Field,
         /// The header as the masks test it, and as the image holds it.
@@ -24,6 +24,8 @@ parts! {
         pub records: Records,
         pub form: Form,
         pub listing: Listing,
+        pub to_pci: ToPci,
+        pub from_pci: FromPci,
     }
 }
 
@@ -94,8 +96,7 @@ impl Row {
 
     /// The words of the command with its payload, by its own words.
     pub fn length(&self, words: &[u32]) -> usize {
-        let groups = |p: Payload| p.groups.of(words).saturating_add_signed(p.more_groups) as usize;
-        self.own_words() + self.payload.map_or(0, |p| p.group_words * groups(p))
+        self.own_words() + self.payload.map_or(0, |payload| payload.words(words))
     }
 
     /// The lowest word with a fault of this kind.
@@ -111,6 +112,14 @@ pub struct Payload {
     pub groups: Field,
     pub more_groups: i32,
     pub group_words: usize,
+}
+
+impl Payload {
+    /// The words of the payload, by the command's own words.
+    pub fn words(&self, own: &[u32]) -> usize {
+        let groups = self.groups.of(own).saturating_add_signed(self.more_groups);
+        self.group_words * groups as usize
+    }
 }
 
 choices! {
@@ -138,10 +147,11 @@ pub enum When {
     Holds(Test),
     UndefinedBit(WhichWord),
     Fault(FaultKind),
+    WrongAddress(WhichWord),
 }
 
 choices! {
-    /// Which of several undefined words is told.
+    /// Which of several undefined words, or wrong pairs, is told.
     pub enum WhichWord { Lowest, Highest }
 }
 
@@ -254,4 +264,78 @@ parts! {
 
 choices! {
     pub enum Digits { Decimal, LowerHex, UpperHex }
+}
+
+parts! {
+    /// Where the words of a command go over PCI.
+    pub struct Addresses {
+        pub base: Mask,
+        pub id_of: IdOf,
+        pub with_id: WithId,
+        pub step: u32,
+        pub group_words: usize,
+        pub payload: PayloadAddresses,
+    }
+}
+
+choices! {
+    /// The word whose id is in the address.
+    pub enum IdOf { Command, EachWord }
+}
+
+choices! {
+    /// How base and id make the first address.
+    pub enum WithId { FourTimes, Once, Twice, EightTimes, SumFourTimes, NotAtAll }
+}
+
+choices! {
+    pub enum PayloadAddresses { StartAgain, RunOn, FirstAlone }
+}
+
+parts! {
+    /// The writer of pairs.
+    pub struct ToPci {
+        pub id: Field,
+        pub addresses: Addresses,
+        pub begin: BeginWords,
+        pub pair: Vec<PairWord>,
+        pub room: Vec<Check>,
+    }
+}
+
+choices! {
+    /// What the words of a BEGIN go as.
+    pub enum BeginWords { Group, OneWord, OwnCommands }
+}
+
+choices! {
+    pub enum PairWord { Address, Value, Number, Header }
+}
+
+parts! {
+    /// The reader of pairs.
+    pub struct FromPci {
+        pub pair_words: usize,
+        /// Which words of a pair they are.
+        pub address: usize,
+        pub value: usize,
+        pub odd_word: OddWord,
+        pub id: Field,
+        pub addresses: Addresses,
+        /// The bits of an address that have to be as expected.
+        pub compared: Mask,
+        /// Every other id is one word.
+        pub groups: Set,
+        pub loads: Set,
+        pub payload: Payload,
+        /// Refusals of all pairs, of each command's pairs, and of the room for the list.
+        pub before_pairs: Vec<Check>,
+        pub each_command: Vec<Check>,
+        pub room: Vec<Check>,
+    }
+}
+
+choices! {
+    /// What the last word is when their number is odd.
+    pub enum OddWord { Ignored, PairWithZero, PairWithItself }
 }

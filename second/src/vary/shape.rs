@@ -210,6 +210,7 @@ impl Vary for When {
             When::Holds(test) => within("test", test, When::Holds),
             When::UndefinedBit(which) => within("word", which, When::UndefinedBit),
             When::Fault(_) => Vec::new(),
+            When::WrongAddress(which) => within("pair", which, When::WrongAddress),
         }
     }
 }

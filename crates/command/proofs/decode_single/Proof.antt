@@ -13,8 +13,10 @@ returns c =
 
 returns-2 : tie.Need-returns-2
 returns-2 c =
-    let a = c .before .before .before .before .before .before in
-    sym (decoded-single _ _ _ _ (a .pre .0) (a .fits .id .fits) (a .pre .1) _ _ _ (c .before .before .header-of .ensures ∙ ap headerOf (c .before .before .before .fetch .ensures)) (c .before .before .before .before .masks-of .ensures) (c .before .undefined .ensures) (c .if1 .left))
+    let a = c .before .before .before .before .before .before .before in
+    c .single-command .ensures
+    ∙ sym (decoded-single _ _ _ _ (a .pre .0) (a .fits .id .fits) (a .pre .1) _ _ _ (c .before .before .before .header-of .ensures ∙ ap headerOf (c .before .before .before .before .fetch .ensures)) (c .before .before .before .before .before .masks-of .ensures) (c .before .before .undefined .ensures) (c .before .if1 .left))
 
 pub decode-single-spec : {M : Type 1} → statement M
-decode-single-spec = tie.close (tie.spec (λ c κs. search needs) (λ c κs. search needs) (λ c κs. search needs) (λ c κs. search needs) (λ c κs. search needs) returns returns-2)
+decode-single-spec = tie.close
+    (tie.spec (λ c κs. search needs) (λ c κs. search needs) (λ c κs. search needs) (λ c κs. search needs) (λ c κs. search needs) returns (λ c κs. search needs) returns-2)

@@ -1,10 +1,24 @@
-use native.Mathlib.Nat.{div-one}
+use native.Mathlib.Nat.{div-one, mod-lt}
+use native.Mathlib.Omega.{arith}
+use Prim.Native.Nat.{ℕ, _+_, _%_, _^_}
+use mathlib.Core.Bool.{Bool, cond, not, _&&_}
+use lib.Dec.{eqb, ltb}
+use Rattle.rules.specs.declared.Refusal.{Refusal}
+use Rattle.rules.specs.Values.{refusal}
+use Rattle.command.specs.Faults.{none}
+use Rattle.rules.specs.Word.{bits}
+use Rattle.command.proofs.FirstFault.{load-first}
 use borrow.Author.Needs.{needs}
 use Rattle.command.proofs.load_faults.Statement.{statement}
 use Rattle.command.proofs.load_faults.Tie as tie
 
 returns : tie.Need-returns
-returns c = rw div-one
+returns c =
+    let g = c .before .before .before .before .before .before .before .args .g in
+    let code : ℕ = bits (g .header) 20 3 in
+    let planes : Bool = eqb code 5 && ltb 8 (bits (g .header) 10 9 + g .header % 2 ^ 9) in
+    let clashes : Refusal = cond (not (eqb code 5) && eqb (bits (g .header) 23 1) 1) (refusal 8 0) (cond planes (refusal 8 0) none) in
+    rw div-one (load-first code (mod-lt _ (omega arith)) (not (eqb code 2) && not (eqb (g .second) 0)) (not (eqb (g .third) 0)) (not (eqb (g .fourth) 0)) clashes)
 
 pub load-faults-spec : {M : Type 1} → statement M
 load-faults-spec = tie.close

@@ -6,7 +6,8 @@ use mathlib.Core.List.{List}
 use lib.ListN.{length, set, length-set}
 use lib.Seq.{sets}
 use Rattle.rules.specs.Form.{read}
-use Rattle.form.proofs.Copying.{copied-on, copied-all}
+use Rattle.rules.proofs.Image.{copied-on}
+use Rattle.form.proofs.Copying.{copied-all}
 use Rattle.form.proofs.copy.Statement.{statement}
 use Rattle.form.proofs.copy.Tie as tie
 

@@ -55,7 +55,7 @@ fn image_by_id() -> Vec<Mutant> {
         };
         let (id, name) = (row.id, format!("image left by {:02X}", row.id));
         let at = Place { function: Function::Reader, verdict: 0, name };
-        let change = |what: &str, word: usize, change: Box<dyn Fn(u32) -> u32>| {
+        let change = |what: &str, word: usize, change: Box<dyn Fn(u32) -> u32 + Sync>| {
             at.change(what, move |case, outcome| {
                 if rules::paper().walk(&case.list).0.iter().any(|c| c.row.id == id) {
                     outcome.image[word] = change(outcome.image[word]);
@@ -83,14 +83,14 @@ fn defined_bits(row: &Row, word: usize) -> impl Iterator<Item = u32> {
     (0..32).filter(move |bit| mask >> bit & 1 == 1)
 }
 
-/// Where the records, or the commands of a form, with this id begin.
+/// Where the records, or the commands of a written list, with this id begin.
 fn places_of(id: u32, function: Function, written: &[u32]) -> Vec<usize> {
     match function {
         Function::Reader => {
             let records = written.chunks_exact(RECORD_WORDS).enumerate();
             records.filter(|(_, record)| record[0] == id).map(|(n, _)| RECORD_WORDS * n).collect()
         }
-        Function::Normaliser => {
+        _ => {
             let commands = rules::paper().walk(written).0;
             commands.iter().filter(|c| c.row.id == id).map(|c| c.position).collect()
         }
@@ -104,7 +104,7 @@ impl Place {
         what: &str,
         id: u32,
         word: usize,
-        change: impl Fn(u32) -> u32 + 'static,
+        change: impl Fn(u32) -> u32 + Sync + 'static,
     ) -> Mutant {
         let function = self.function;
         self.change(what, move |_, outcome| {

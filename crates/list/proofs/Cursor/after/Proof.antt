@@ -8,7 +8,7 @@ add-t6 : tie.Need-add-t6
 add-t6 c = omega (arith, c .before .before .before .before .record-count .ensures, at-most-one (c .before .before .before .before .before .args .k .setting))
 
 returns : tie.Need-returns
-returns c = rw (c .before .before .before .before .before .record-count .ensures)
+returns c = rw (c .before .before .before .before .record-count .ensures)
 
 pub after-spec : {M : Type 1} → statement M
 after-spec =

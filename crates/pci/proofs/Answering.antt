@@ -1,0 +1,61 @@
+-- The answers of `to_pci` and `from_pci`, by what the first pass found and the buffer's length.
+use Prim.Native.Nat.{ℕ, _*_, _/_, _≤_, _<_}
+use native.Mathlib.Omega.{arith}
+use mathlib.Core.Path.{_≡_, refl, ap}
+use mathlib.Core.List.{List}
+use lib.ListN.{length}
+use lib.Seq.{sets}
+use Rattle.rules.specs.declared.Refusal.{Refusal}
+use Rattle.rules.specs.Values.{refusal}
+use Rattle.rules.specs.Walk.{parse}
+use Rattle.rules.specs.Answer.{refuse, commandsOf}
+use Rattle.rules.specs.Pci.{pairsAll, values, parsePairs, toPci, fromPci}
+use Rattle.rules.proofs.Parse.{parse-accepted}
+use Rattle.rules.proofs.Pci.{pairs-length}
+use Rattle.list.specs.declared.Walked.the-variants as walked
+use Rattle.list.specs.View.{walkedOf}
+use Rattle.list.proofs.Reading.{counts, answer-refused, answer-short, answer-done}
+
+module _ (l image buffer : List ℕ) where
+  pub to-refused : (f : Refusal) → walkedOf (parse image l) ≡ walked.Refused f → refuse f image buffer ≡ toPci l image buffer
+  unfolding toPci
+  to-refused f e = answer-refused pairsAll l image buffer (parse image l) f e
+
+  module _ (c k : ℕ) (e : walkedOf (parse image l) ≡ walked.Accepted c k) where
+    -- two words for each of the list
+    to-length : length (pairsAll (commandsOf (parse image l))) ≡ 2 * length l
+    to-length =
+        let a = parse-accepted image l (commandsOf (parse image l)) (counts (parse image l) c k e .is) in
+        omega (arith, pairs-length (commandsOf (parse image l)), ap length (a .parses .words-are))
+
+    pub to-short : length buffer / 2 < length l → refuse (refusal 11 (length l)) image buffer ≡ toPci l image buffer
+    unfolding toPci
+    to-short h = answer-short pairsAll l image buffer (parse image l) c k e (omega (arith, to-length))
+
+    pub to-done : length l ≤ length buffer / 2
+        → record {
+          answer = record { verdict = 0; position = length l; commands = c; records = k; words = 2 * length l };
+          image = image;
+          buffer = sets buffer 0 (pairsAll (commandsOf (parse image l)));
+        } ≡ toPci l image buffer
+    unfolding toPci
+    to-done h = answer-done pairsAll l image buffer (parse image l) c k e (2 * length l) to-length (omega arith)
+
+module _ (ps image buffer : List ℕ) where
+  pub from-refused : (f : Refusal) → walkedOf (parsePairs image ps) ≡ walked.Refused f → refuse f image buffer ≡ fromPci ps image buffer
+  unfolding fromPci
+  from-refused f e = answer-refused (λ cs. values ps) (values ps) image buffer (parsePairs image ps) f e
+
+  module _ (c k n : ℕ) (e : walkedOf (parsePairs image ps) ≡ walked.Accepted c k) (en : n ≡ length (values ps)) where
+    pub from-short : length buffer < n → refuse (refusal 11 n) image buffer ≡ fromPci ps image buffer
+    unfolding fromPci
+    from-short h = rw en (answer-short (λ cs. values ps) (values ps) image buffer (parsePairs image ps) c k e (omega arith))
+
+    pub from-done : n ≤ length buffer
+        → record {
+          answer = record { verdict = 0; position = n; commands = c; records = k; words = n };
+          image = image;
+          buffer = sets buffer 0 (values ps);
+        } ≡ fromPci ps image buffer
+    unfolding fromPci
+    from-done h = rw en (answer-done (λ cs. values ps) (values ps) image buffer (parsePairs image ps) c k e (length (values ps)) refl (omega arith))

@@ -1,0 +1,264 @@
+// A list as the writes that a host makes over PCI, and back (document 02, Ticket 1).
+//
+// A pair is two words of a buffer, address first. Pair `at` carries word `at` of the list.
+use command::Decoded;
+use list::Cursor;
+use list::Step;
+use list::Walked;
+use rules::Answer;
+use rules::Refusal;
+ghost use mathlib.Core.Path.{_≡_};
+ghost use mathlib.Core.Bool.{true, false};
+ghost use mathlib.Core.List.{List};
+ghost use Prim.Native.Nat.{ℕ, _+_, _-_, _*_, _<_, _≤_};
+ghost use lib.ListN.{length};
+ghost use lib.Seq.{sets};
+ghost use Rattle.rules.specs.Walk.{walk, start, parse, accepted};
+ghost use Rattle.rules.specs.Form.{read};
+ghost use Rattle.rules.specs.Answer.{commandsOf};
+ghost use Rattle.rules.specs.Pci.{commandPairs, pairsFrom, pairsAll, values, misplaced, outside, unless, parsePairs, toPci, fromPci};
+ghost use Rattle.table.specs.Ids.{groupId};
+ghost use Rattle.table.specs.Tables.{rowTable};
+ghost use Rattle.command.specs.View.{sizeAt, KnownAt};
+ghost use Rattle.list.specs.View.{walkedOf, Counted};
+ghost use Rattle.list.specs.Effects.{CommandAt, commandAt};
+ghost use Rattle.pci.specs.View.{Met, Stepped};
+
+// ---- from a list to pairs
+
+// The pair of a command of one word.
+fn write_single(list: &[u32], pairs: &mut [u32], at: usize, id: u8)
+    requires { ⌜ (at < length (now list)) × (2 * at + 2 ≤ length (now pairs)) ⌝ }
+    ensures { λ _. ⌜ now (pairs .exit) ≡ sets (now (pairs .entry)) (2 * at) (pairsFrom id 0 (read (now (list .entry)) at 1)) ⌝ }
+{
+    pairs[2 * at] = places::address(id, 0);
+    pairs[2 * at + 1] = words::fetch(list, at);
+}
+
+// The pairs of a group.
+fn write_group(list: &[u32], pairs: &mut [u32], at: usize, id: u8)
+    requires { ⌜ (at + 4 ≤ length (now list)) × (2 * at + 8 ≤ length (now pairs)) ⌝ }
+    ensures { λ _. ⌜ now (pairs .exit) ≡ sets (now (pairs .entry)) (2 * at) (pairsFrom id 0 (read (now (list .entry)) at 4)) ⌝ }
+{
+    let a = words::fetch(list, at);
+    let b = words::fetch(list, at + 1);
+    let c = words::fetch(list, at + 2);
+    let d = words::fetch(list, at + 3);
+    words::put4(
+        pairs,
+        2 * at,
+        places::address(id, 0),
+        a,
+        places::address(id, 1),
+        b,
+    );
+    words::put4(
+        pairs,
+        2 * at + 4,
+        places::address(id, 2),
+        c,
+        places::address(id, 3),
+        d,
+    );
+}
+
+// The pairs of a group with its payload.
+fn write_words(list: &[u32], pairs: &mut [u32], at: usize, words: usize, id: u8)
+    requires { ⌜ (at + words ≤ length (now list)) × (2 * at + 2 * words ≤ length (now pairs)) × (length (now list) ≤ 4096) ⌝ }
+    ensures { λ _. ⌜ now (pairs .exit) ≡ sets (now (pairs .entry)) (2 * at) (pairsFrom id 0 (read (now (list .entry)) at words)) ⌝ }
+{
+    let mut i: usize = 0;
+    while i < words {
+        pairs[2 * (at + i)] = places::address(id, i);
+        pairs[2 * (at + i) + 1] = words::fetch(list, at + i);
+        i += 1;
+    }
+}
+
+// The pairs of the command at a position of an accepted list, and the position behind it. Each known id from 40 on has a
+// group.
+fn write_command(list: &[u32], pairs: &mut [u32], at: usize) -> usize
+    requires { ⌜ CommandAt (now list) at × (2 * at + 2 * sizeAt (now list) at ≤ length (now pairs)) ⌝ }
+    ensures { λ r. ⌜ (r ≡ at + sizeAt (now (list .entry)) at) × (now (pairs .exit) ≡ sets (now (pairs .entry)) (2 * at) (commandPairs (commandAt (now (list .entry)) at))) ⌝ }
+{
+    let id = words::id_of(words::fetch(list, at));
+    let group = (0x40 <= id) | table::is_begin(id);
+    if !group {
+        write_single(list, pairs, at, id);
+        return at + 1;
+    }
+    let more = command::payload(id, command::group_at(list, at));
+    if 0 < more {
+        write_words(list, pairs, at, 4 + more, id);
+        return at + (4 + more);
+    }
+    write_group(list, pairs, at, id);
+    at + 4
+}
+
+// The pairs of an accepted list.
+fn write_list(list: &[u32], image: &[u32], pairs: &mut [u32])
+    requires { ⌜ (parse (now image) (now list) ≡ accepted (commandsOf (parse (now image) (now list)))) × (2 * length (now list) ≤ length (now pairs)) ⌝ }
+    ensures { λ _. ⌜ now (pairs .exit) ≡ sets (now (pairs .entry)) 0 (pairsAll (commandsOf (parse (now (image .entry)) (now (list .entry))))) ⌝ }
+{
+    let mut at: usize = 0;
+    while at < list.len() {
+        at = write_command(list, pairs, at);
+    }
+}
+
+// From a list and a register image to the list's writes over PCI.
+pub fn to_pci(list: &[u32], image: &[u32], pairs: &mut [u32]) -> Answer
+    ensures { λ r. ⌜ record { answer = r; image = now (image .entry); buffer = now (pairs .exit) } ≡ toPci (now (list .entry)) (now (image .entry)) (now (pairs .entry)) ⌝ }
+{
+    let w = list::check(list, image);
+    match w {
+        Walked::Refused(f) => list::refuse(f),
+        Walked::Accepted(commands, records) => {
+            if pairs.len() / 2 < list.len() {
+                return list::refuse(Refusal {
+                    number: 11,
+                    word: list.len(),
+                });
+            }
+            write_list(list, image, pairs);
+            Answer {
+                verdict: 0,
+                position: list.len(),
+                commands,
+                records,
+                words: 2 * list.len(),
+            }
+        }
+    }
+}
+
+// ---- from pairs to a list
+
+// A command of one word. Where a pair is out of place, here and below, any refusal will do: 13 or 14 comes before it.
+fn decode_single(pairs: &[u32], at: usize, id: u8, row: u8) -> Decoded
+    requires { ⌜ KnownAt (values (now pairs)) at id row × (groupId id ≡ false) ⌝ }
+    ensures { λ r. ⌜ Met (now (pairs .entry)) at r ⌝ }
+{
+    let m = table::masks_of(row);
+    let undefined = command::undefined(words::header_of(places::value_at(pairs, at)), m.header);
+    if (places::address_at(pairs, at) != places::address(id, 0)) | undefined {
+        return command::refused(6, at);
+    }
+    command::single_command(row)
+}
+
+// A command of four words and its payload.
+fn decode_group(pairs: &[u32], at: usize, id: u8, row: u8) -> Decoded
+    requires { ⌜ KnownAt (values (now pairs)) at id row × (groupId id ≡ true) ⌝ }
+    ensures { λ r. ⌜ Met (now (pairs .entry)) at r ⌝ }
+{
+    if pairs.len() / 2 - at < 4 {
+        return command::refused(5, at);
+    }
+    let g = places::group_at(pairs, at);
+    if !places::group_placed(pairs, at, id) | command::undefined_bits(row, g) {
+        let f = command::fault(row, id, g);
+        return command::refused(f.number, at + f.word);
+    }
+    if command::bad_values(id, g.header, g.second, g.third, g.fourth) {
+        let f = command::fault(row, id, g);
+        return command::refused(f.number, at + f.word);
+    }
+    let more = command::payload(id, g);
+    if 0 < more {
+        if !places::payload_placed(pairs, at + 4, more, id) {
+            return command::refused(9, at);
+        }
+        return command::group_command(4 + more, row);
+    }
+    command::group_command(4, row)
+}
+
+// One command: its refusal, or the cursor after it.
+fn step(rows: &[u8; 256], pairs: &[u32], c: Cursor) -> Step
+    requires { ⌜ Counted c × (c .at < length (values (now pairs))) × (now rows ≡ rowTable) ⌝ }
+    ensures { λ r. ⌜ Stepped (now (pairs .entry)) c r ⌝ }
+{
+    let id = words::id_of(places::value_at(pairs, c.at));
+    let row = rows[id as usize];
+    if table::UNKNOWN <= row {
+        return c.take(command::refused(command::unknown(id), c.at));
+    }
+    if (0x40 <= id) | (row == table::BEGIN) {
+        return c.take(decode_group(pairs, c.at, id, row));
+    }
+    c.take(decode_single(pairs, c.at, id, row))
+}
+
+// The first pass: all pairs are checked, and nothing is written.
+fn walk(rows: &[u8; 256], pairs: &[u32]) -> Walked
+    requires { ⌜ now rows ≡ rowTable ⌝ }
+    ensures { λ r. ⌜ ((image : List ℕ) → r ≡ walkedOf (unless (misplaced outside 0 0 (now (pairs .entry))) (walk (start image) 0 0 (values (now (pairs .entry)))))) ⌝ }
+{
+    let n = pairs.len() / 2;
+    let mut c = Cursor::start();
+    while c.at < n {
+        let s = step(rows, pairs, c);
+        match s {
+            Step::Refused(f) => return Walked::Refused(places::refuse_pairs(pairs, c.at, f)),
+            Step::On(next) => c = next,
+        }
+    }
+    Walked::Accepted(c.commands, c.records)
+}
+
+// The verdict on pairs, before anything is written: refusals 1, 2, 13, 14 and 3 to 10, or the counts.
+fn check(pairs: &[u32], image: &[u32]) -> Walked
+    ensures { λ r. ⌜ r ≡ walkedOf (parsePairs (now (image .entry)) (now (pairs .entry))) ⌝ }
+{
+    if 4096 < pairs.len() / 2 {
+        return Walked::Refused(Refusal {
+            number: 1,
+            word: 4096,
+        });
+    }
+    if image.len() != 256 {
+        return Walked::Refused(Refusal { number: 2, word: 0 });
+    }
+    let rows = table::row_table();
+    walk(&rows, pairs)
+}
+
+fn write_values(pairs: &[u32], list: &mut [u32])
+    requires { ⌜ length (values (now pairs)) ≤ length (now list) ⌝ }
+    ensures { λ _. ⌜ now (list .exit) ≡ sets (now (list .entry)) 0 (values (now (pairs .entry))) ⌝ }
+{
+    let mut i: usize = 0;
+    while i < pairs.len() / 2 {
+        list[i] = places::value_at(pairs, i);
+        i += 1;
+    }
+}
+
+// From writes over PCI and a register image to the list that they carry.
+pub fn from_pci(pairs: &[u32], image: &[u32], list: &mut [u32]) -> Answer
+    ensures { λ r. ⌜ record { answer = r; image = now (image .entry); buffer = now (list .exit) } ≡ fromPci (now (pairs .entry)) (now (image .entry)) (now (list .entry)) ⌝ }
+{
+    let words = pairs.len() / 2;
+    let w = check(pairs, image);
+    match w {
+        Walked::Refused(f) => list::refuse(f),
+        Walked::Accepted(commands, records) => {
+            if list.len() < words {
+                return list::refuse(Refusal {
+                    number: 11,
+                    word: words,
+                });
+            }
+            write_values(pairs, list);
+            Answer {
+                verdict: 0,
+                position: words,
+                commands,
+                records,
+                words,
+            }
+        }
+    }
+}

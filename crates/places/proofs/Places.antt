@@ -1,0 +1,263 @@
+-- The pairs of a buffer by their numbers, and where each is expected.
+use Prim.Native.Nat.{ℕ, zero, suc, _+_, _*_, _-_, _/_, _%_, _^_, _≤_, _<_}
+use native.Mathlib.Nat.{add-zero, zero-add}
+use native.Mathlib.Numerals.{add-one, add-two, add-three}
+use native.Mathlib.Omega.{arith}
+use mathlib.Core.Path.{_≡_, refl, ap, ap₂, sym, _∙_, subst}
+use mathlib.Core.Bool.{Bool, true, false, _&&_}
+use mathlib.Core.List.{List, [], _∷_, _++_}
+use mathlib.Core.Option.{Option, none, some}
+use native.Mathlib.Decide.{ℕ-discrete}
+use lib.Dec.{eqb, ltb}
+use borrow.Author.Tests.{eqb-true, eq-eqb, ltb-true, ltb-false}
+use lib.ListN.{length, getD, drop}
+use Rattle.rules.specs.Word.{idOf, headerOf}
+use Rattle.rules.specs.Table.{Row, rowOf}
+use Rattle.rules.specs.Command.{payload, sizeOf, commandSize}
+use Rattle.rules.specs.Values.{refusal}
+use Rattle.rules.specs.Form.{read}
+use Rattle.rules.specs.Pci.{address, values, Inside, further, ended, expecting, misplaced, outside}
+use Rattle.rules.proofs.Bools.{and-left, and-right}
+use Rattle.rules.proofs.Image.{length-read, read-add}
+use Rattle.rules.proofs.Pci.{between, expected, expecting-none}
+use Rattle.table.specs.declared.Group.{Group}
+use Rattle.table.specs.Ids.{groupId}
+use Rattle.table.specs.Tables.{more}
+use Rattle.command.specs.View.{groupAt, sizeAt}
+use Rattle.command.proofs.Decoding.{size-group, size-least, size-single}
+use Rattle.places.specs.View.{addresses, behind, placed, misplacedFrom, Sized, Leading}
+
+and-assoc : (a b c : Bool) → ((a && b) && c) ≡ (a && (b && c))
+and-assoc true b c = refl
+and-assoc false b c = refl
+
+and-true : (b : Bool) → (b && true) ≡ b
+and-true true = refl
+and-true false = refl
+
+and-four : (a b c d : Bool) → ((a && b) && (c && d)) ≡ (a && (b && (c && (d && true))))
+and-four true true c true = refl
+and-four true true c false = refl
+and-four true false c d = refl
+and-four false b c d = refl
+
+-- ---- pairs by their numbers
+
+pub pair-count : (ps : List ℕ) → length (values ps) ≡ length ps / 2
+pair-count [] = refl
+pair-count (a ∷ []) = refl
+pair-count (a ∷ v ∷ ps) = omega (arith, pair-count ps)
+
+pub address-count : (ps : List ℕ) → length (addresses ps) ≡ length (values ps)
+address-count [] = refl
+address-count (a ∷ []) = refl
+address-count (a ∷ v ∷ ps) = ap suc (address-count ps)
+
+pub value-of : (ps : List ℕ) (at : ℕ) → at < length (values ps) → getD ps (2 * at + 1) 0 ≡ getD (values ps) at 0
+value-of [] at h = absurd (omega arith)
+value-of (a ∷ []) at h = absurd (omega arith)
+value-of (a ∷ v ∷ ps) zero h = refl
+value-of (a ∷ v ∷ ps) (suc at) h =
+    let i : 2 * suc at + 1 ≡ suc (suc (2 * at + 1)) = omega arith in
+    ap (λ (k : ℕ). getD (a ∷ v ∷ ps) k 0) i ∙ value-of ps at (omega arith)
+
+pub address-of : (ps : List ℕ) (at : ℕ) → at < length (values ps) → getD ps (2 * at) 0 ≡ getD (addresses ps) at 0
+address-of [] at h = absurd (omega arith)
+address-of (a ∷ []) at h = absurd (omega arith)
+address-of (a ∷ v ∷ ps) zero h = refl
+address-of (a ∷ v ∷ ps) (suc at) h =
+    let i : 2 * suc at ≡ suc (suc (2 * at)) = omega arith in
+    ap (λ (k : ℕ). getD (a ∷ v ∷ ps) k 0) i ∙ address-of ps at (omega arith)
+
+-- the pairs from a number on: the pair there, and the others
+behind-pair : (ps : List ℕ) (at : ℕ) → at < length (values ps) → behind at ps ≡ getD (addresses ps) at 0 ∷ getD (values ps) at 0 ∷ behind (suc at) ps
+behind-pair [] at h = absurd (omega arith)
+behind-pair (a ∷ []) at h = absurd (omega arith)
+behind-pair (a ∷ v ∷ ps) zero h = refl
+behind-pair (a ∷ v ∷ ps) (suc at) h = behind-pair ps at (omega arith)
+
+behind-values : (ps : List ℕ) (at : ℕ) → values (behind at ps) ≡ drop at (values ps)
+behind-values ps zero = refl
+behind-values [] (suc at) = refl
+behind-values (a ∷ []) (suc at) = refl
+behind-values (a ∷ v ∷ ps) (suc at) = behind-values ps at
+
+-- an id that a pair's value has
+pub id-small : (ps : List ℕ) (at id : ℕ) → at < length (values ps) → getD ps (2 * at + 1) 0 < 2 ^ 32 → id ≡ idOf (getD (values ps) at 0) → id < 256
+id-small ps at id h f e = omega (arith, value-of ps at h, f, e)
+
+-- ---- sizes
+
+module _ (l : List ℕ) (at id : ℕ) (ei : id ≡ idOf (getD l at 0)) (small : id < 256) where
+  pub sized-single : groupId id ≡ false → at < length l → Sized l at 1
+  sized-single g h = record { exact = λ f. sym (size-single l at id ei small g); beyond = λ f. absurd (omega arith); some = omega arith }
+
+  pub sized-cut : groupId id ≡ true → length l < at + 4 → Sized l at 4
+  sized-cut g h = record { exact = λ f. absurd (omega arith); beyond = λ f. omega (arith, size-least l at id ei small g); some = omega arith }
+
+  pub sized-group : groupId id ≡ true → at + 4 ≤ length l → (g : Group) → g ≡ groupAt l at → (n : ℕ) → n ≡ payload id (g .header) (more g) → Sized l at (4 + n)
+  sized-group t h g eg n en =
+      let e : 4 + n ≡ sizeAt l at = ap (λ (x : ℕ). 4 + x) (en ∙ ap (λ (x : Group). payload id (x .header) (more x)) eg) ∙ sym (size-group l at id ei small t h) in
+      record { exact = λ f. e; beyond = λ f. omega (arith, e); some = omega arith }
+
+-- ---- addresses in place
+
+placed-append : (id k : ℕ) (xs ys : List ℕ) → placed id k (xs ++ ys) ≡ (placed id k xs && placed id (k + length xs) ys)
+placed-append id k [] ys = ap (λ (j : ℕ). placed id j ys) (omega arith)
+placed-append id k (x ∷ xs) ys =
+    let j : suc k + length xs ≡ k + suc (length xs) = omega arith in
+    ap (λ (b : Bool). eqb x (address id k) && b) (placed-append id (suc k) xs ys ∙ ap (λ (n : ℕ). placed id (suc k) xs && placed id n ys) j)
+    ∙ sym (and-assoc (eqb x (address id k)) (placed id (suc k) xs) (placed id (k + suc (length xs)) ys))
+
+-- of a run in two parts
+pub placed-add : (id : ℕ) (l : List ℕ) (at i j : ℕ) → placed id 0 (read l at (i + j)) ≡ (placed id 0 (read l at i) && placed id i (read l (at + i) j))
+placed-add id l at i j =
+    let n : 0 + length (read l at i) ≡ i = omega (arith, length-read l at i) in
+    ap (placed id 0) (read-add l at i j) ∙ placed-append id 0 (read l at i) (read l (at + i) j)
+    ∙ ap (λ (k : ℕ). placed id 0 (read l at i) && placed id k (read l (at + i) j)) n
+
+pub placed-one : (id : ℕ) (l : List ℕ) (at i : ℕ) → placed id 0 (read l at (i + 1)) ≡ (placed id 0 (read l at i) && eqb (getD l (at + i) 0) (address id i))
+placed-one id l at i = placed-add id l at i 1 ∙ ap (λ (b : Bool). placed id 0 (read l at i) && b) (and-true (eqb (getD l (at + i) 0) (address id i)))
+
+-- four at once
+pub placed-four : (id : ℕ) (l : List ℕ) (at : ℕ)
+    → ((eqb (getD l at 0) (address id 0) && eqb (getD l (at + 1) 0) (address id 1)) && (eqb (getD l (at + 2) 0) (address id 2) && eqb (getD l (at + 3) 0) (address id 3)))
+    ≡ placed id 0 (read l at 4)
+placed-four id l at =
+    rw (add-one at, add-two at, add-three at)
+    (and-four (eqb (getD l at 0) (address id 0)) (eqb (getD l (suc at) 0) (address id 1)) (eqb (getD l (suc (suc at)) 0) (address id 2)) (eqb (getD l (suc (suc (suc at))) 0) (address id 3)))
+
+-- "the load's own four addresses again"
+pub placed-again : (id k : ℕ) (xs : List ℕ) → placed id (k + 4) xs ≡ placed id k xs
+unfolding address
+placed-again id k [] = refl
+placed-again id k (x ∷ xs) =
+    let again : (k + 4) % 4 ≡ k % 4 = omega arith in
+    let on : suc (k + 4) ≡ suc k + 4 = omega arith in
+    ap₂ (λ (n : ℕ) (b : Bool). eqb x (0x2800 + id * 4 + n * 4) && b) again (ap (λ (n : ℕ). placed id n xs) on ∙ placed-again id (suc k) xs)
+
+-- ---- where pairs are expected
+
+-- no pair is left
+at-end : (ps : List ℕ) (o : Inside) (left p at : ℕ) → length (values ps) ≤ at → misplaced o left p (behind at ps) ≡ ended o left
+unfolding misplaced
+at-end [] o left p zero h = refl
+at-end [] o left p (suc at) h = refl
+at-end (a ∷ []) o left p zero h = refl
+at-end (a ∷ []) o left p (suc at) h = refl
+at-end (a ∷ v ∷ ps) o left p zero h = absurd (omega arith)
+at-end (a ∷ v ∷ ps) o left p (suc at) h = at-end ps o left p at (omega arith)
+
+pub none-behind : (ps : List ℕ) (at : ℕ) → length (values ps) ≤ at → misplacedFrom at ps ≡ none
+none-behind ps at h = at-end ps outside 0 at at h
+
+-- a command has a word
+size-some : (h : ℕ) (ws : List ℕ) (x : Option Row) → 0 < sizeOf h ws x
+size-some h ws none = omega arith
+size-some h ws (some r) = omega arith
+
+module _ (ps : List ℕ) where
+  -- the pair at a number, inside a command
+  inside-at : (o : Inside) (left at : ℕ) → at < length (values ps)
+      → misplaced o (suc left) at (behind at ps) ≡ expecting (address (o .id) (o .word)) (getD (addresses ps) at 0) at (misplaced (further o) left (suc at) (behind (suc at) ps))
+  unfolding misplaced
+  inside-at o left at h = ap (misplaced o (suc left) at) (behind-pair ps at h)
+
+  -- the command whose first pair stands at a number
+  abbrev pub here : ℕ → Inside
+  here at = record { first = at; id = idOf (getD (values ps) at 0); word = 0 }
+
+  pub opened : (at : ℕ) → at < length (values ps) → misplacedFrom at ps ≡ misplaced (here at) (sizeAt (values ps) at) at (behind at ps)
+  unfolding misplaced commandSize
+  opened at h =
+      let v : ℕ = getD (values ps) at 0 in
+      let n : ℕ = sizeAt (values ps) at in
+      let ws : values (behind (suc at) ps) ≡ drop (suc at) (values ps) = behind-values ps (suc at) in
+      let pos : 0 < n = size-some (headerOf v) (drop (suc at) (values ps)) (rowOf (idOf v)) in
+      let e : suc (n - 1) ≡ n = omega (arith, pos) in
+      ap (misplaced outside 0 at) (behind-pair ps at h)
+      ∙ ap (λ (l : List ℕ). expecting (address (idOf v) 0) (getD (addresses ps) at 0) at (misplaced (further (here at)) (commandSize v l - 1) (suc at) (behind (suc at) ps))) ws
+      ∙ sym (inside-at (here at) (n - 1) at h)
+      ∙ ap (λ (m : ℕ). misplaced (here at) m at (behind at ps)) e
+
+  -- pairs in place are passed
+  passes : (o : Inside) (left at : ℕ) → at + left ≤ length (values ps) → placed (o .id) (o .word) (read (addresses ps) at left) ≡ true
+      → misplaced o left at (behind at ps) ≡ misplacedFrom (at + left) ps
+  passes o zero at h t = between o outside at (behind at ps) ∙ ap (λ (k : ℕ). misplacedFrom k ps) (omega arith)
+  passes o (suc left) at h t =
+      let e = eqb-true (getD (addresses ps) at 0) (address (o .id) (o .word)) (and-left _ (placed (o .id) (suc (o .word)) (read (addresses ps) (suc at) left)) t) in
+      inside-at o left at (omega arith)
+      ∙ expected (address (o .id) (o .word)) (getD (addresses ps) at 0) at _ e
+      ∙ passes (further o) left (suc at) (omega arith) (and-right (eqb (getD (addresses ps) at 0) (address (o .id) (o .word))) _ t)
+      ∙ ap (λ (k : ℕ). misplacedFrom k ps) (omega arith)
+
+  -- 13: the first pair out of place
+  wrong-at : (o : Inside) (left at i : ℕ) → i < left → at + i < length (values ps) → placed (o .id) (o .word) (read (addresses ps) at i) ≡ true
+      → eqb (getD (addresses ps) (at + i) 0) (address (o .id) (o .word + i)) ≡ false → misplaced o left at (behind at ps) ≡ some (refusal 13 (at + i))
+  wrong-at o zero at i l h t w = absurd (omega arith)
+  wrong-at o (suc left) at zero l h t w =
+      let w′ : eqb (getD (addresses ps) at 0) (address (o .id) (o .word)) ≡ false = rw (add-zero at, add-zero (o .word)) at w in
+      inside-at o left at (omega arith) ∙ rw (w′, add-zero at)
+  wrong-at o (suc left) at (suc i) l h t w =
+      let e = eqb-true (getD (addresses ps) at 0) (address (o .id) (o .word)) (and-left _ (placed (o .id) (suc (o .word)) (read (addresses ps) (suc at) i)) t) in
+      let j : at + suc i ≡ suc at + i = omega arith in
+      let k : o .word + suc i ≡ suc (o .word) + i = omega arith in
+      inside-at o left at (omega arith)
+      ∙ expected (address (o .id) (o .word)) (getD (addresses ps) at 0) at _ e
+      ∙ wrong-at (further o) left (suc at) i (omega arith) (omega arith) (and-right (eqb (getD (addresses ps) at 0) (address (o .id) (o .word))) _ t) (rw (← j, ← k) w)
+      ∙ ap (λ (m : ℕ). some (refusal 13 m)) (sym j)
+
+  -- 14: the pairs end first
+  cut-at : (o : Inside) (left at r : ℕ) → at + r ≡ length (values ps) → r < left → placed (o .id) (o .word) (read (addresses ps) at r) ≡ true
+      → misplaced o left at (behind at ps) ≡ some (refusal 14 (o .first))
+  cut-at o zero at r h l t = absurd (omega arith)
+  cut-at o (suc left) at zero h l t = at-end ps o (suc left) at at (omega arith)
+  cut-at o (suc left) at (suc r) h l t =
+      let e = eqb-true (getD (addresses ps) at 0) (address (o .id) (o .word)) (and-left _ (placed (o .id) (suc (o .word)) (read (addresses ps) (suc at) r)) t) in
+      inside-at o left at (omega arith)
+      ∙ expected (address (o .id) (o .word)) (getD (addresses ps) at 0) at _ e
+      ∙ cut-at (further o) left (suc at) r (omega arith) (omega arith) (and-right (eqb (getD (addresses ps) at 0) (address (o .id) (o .word))) _ t)
+
+  -- neither: they are all there, in place
+  in-place : (o : Inside) (left at : ℕ) → at ≤ length (values ps) → misplaced o left at (behind at ps) ≡ none
+      → (at + left ≤ length (values ps)) × (placed (o .id) (o .word) (read (addresses ps) at left) ≡ true)
+  in-place o zero at h e = (omega arith, refl)
+  in-place o (suc left) at h e = elim (ℕ-discrete at (length (values ps))) [
+    | yes q ↦ let z = sym (at-end ps o (suc left) at at (omega (arith, q))) ∙ e in let y : _≡_ {A = ℕ} 0 1 = cc in absurd (omega arith)
+    | no q ↦
+        let x = expecting-none (address (o .id) (o .word)) (getD (addresses ps) at 0) at (misplaced (further o) left (suc at) (behind (suc at) ps)) (sym (inside-at o left at (omega (arith, q))) ∙ e) in
+        let later = in-place (further o) left (suc at) (omega (arith, q)) (x .1) in
+        (omega (arith, later .0), ap₂ (λ (a b : Bool). a && b) (eq-eqb (getD (addresses ps) at 0) (address (o .id) (o .word)) (x .0)) (later .1))
+  ]
+
+  -- ---- of the command at a number
+
+  module _ (at : ℕ) (h : at < length (values ps)) where
+    pub command-passes : (n : ℕ) → n ≡ sizeAt (values ps) at → at + n ≤ length (values ps) → placed (idOf (getD (values ps) at 0)) 0 (read (addresses ps) at n) ≡ true
+        → misplacedFrom at ps ≡ misplacedFrom (at + n) ps
+    command-passes n e f t =
+        opened at h ∙ ap (λ (m : ℕ). misplaced (here at) m at (behind at ps)) (sym e) ∙ passes (here at) n at f t
+
+    pub command-in-place : misplacedFrom at ps ≡ none
+        → (at + sizeAt (values ps) at ≤ length (values ps)) × (placed (idOf (getD (values ps) at 0)) 0 (read (addresses ps) at (sizeAt (values ps) at)) ≡ true)
+    command-in-place e = in-place (here at) (sizeAt (values ps) at) at (omega arith) (sym (opened at h) ∙ e)
+
+    module _ (words r : ℕ) (s : Sized (values ps) at words) (k : Leading ps at words (idOf (getD (values ps) at 0)) r) where
+      pub leading-wrong : r < words → r < length (values ps) - at → misplacedFrom at ps ≡ some (refusal 13 (at + r))
+      leading-wrong l t =
+          let few : r < sizeAt (values ps) at = (elim (ltb (length (values ps)) (at + words)) as (λ b. ltb (length (values ps)) (at + words) ≡ b → r < sizeAt (values ps) at) [
+            | true ↦ λ b. omega (arith, s .beyond (ltb-true (length (values ps)) (at + words) b))
+            | false ↦ λ b. omega (arith, s .exact (ltb-false (length (values ps)) (at + words) b))
+          ]) refl in
+          opened at h ∙ wrong-at (here at) (sizeAt (values ps) at) at r few (omega arith) (k .right) (rw zero-add (k .wrong l (omega arith)))
+
+      pub leading-cut : r < words → length (values ps) - at ≤ r → misplacedFrom at ps ≡ some (refusal 14 at)
+      leading-cut l t =
+          let more : length (values ps) < at + sizeAt (values ps) at = s .beyond (omega (arith, k .there)) in
+          opened at h ∙ cut-at (here at) (sizeAt (values ps) at) at r (omega (arith, k .there)) (omega (arith, k .there)) (k .right)
+
+      pub leading-all : words ≤ r → (at + words ≤ length (values ps)) × (misplacedFrom at ps ≡ misplacedFrom (at + words) ps)
+      leading-all l =
+          let e : r ≡ words = omega (arith, k .most) in
+          let f : at + words ≤ length (values ps) = omega (arith, k .there) in
+          (f, command-passes words (s .exact f) f (subst (λ (n : ℕ). placed (idOf (getD (values ps) at 0)) 0 (read (addresses ps) at n) ≡ true) e (k .right)))

@@ -1,0 +1,23 @@
+use native.Mathlib.Omega.{arith}
+use Rattle.places.proofs.Places.{pair-count, value-of}
+use Rattle.places.proofs.value_at.Statement.{statement}
+use Rattle.places.proofs.value_at.Tie as tie
+
+mul-result : tie.Need-mul-result
+mul-result c = omega (arith, c .pre, c .good, pair-count (c .args .pairs .now))
+
+add-result : tie.Need-add-result
+add-result c = omega (arith, c .pre, c .good, pair-count (c .args .pairs .now))
+
+mul-result-2 : tie.Need-mul-result-2
+mul-result-2 c = omega (arith, c .pre, c .good, pair-count (c .args .pairs .now))
+
+shared-slice-read-result : tie.Need-shared-slice-read-result
+shared-slice-read-result c = omega (arith, c .before .pre, pair-count (c .before .args .pairs .now))
+
+returns : tie.Need-returns
+returns c = value-of (c .before .args .pairs .now) (c .before .args .at) (c .before .pre)
+
+pub value-at-spec : {M : Type 1} → statement M
+value-at-spec = tie.close
+    (tie.spec mul-result add-result mul-result-2 shared-slice-read-result returns)

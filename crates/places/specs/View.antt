@@ -1,0 +1,50 @@
+-- The pairs of a buffer, as the code has them.
+use Prim.Native.Nat.{ℕ, zero, suc, _+_, _≤_, _<_}
+use mathlib.Core.Path.{_≡_}
+use mathlib.Core.Bool.{Bool, true, false, _&&_}
+use mathlib.Core.List.{List, [], _∷_}
+use mathlib.Core.Option.{Option, none, some}
+use lib.Dec.{eqb}
+use lib.ListN.{length, getD}
+use Rattle.rules.specs.declared.Refusal.{Refusal}
+use Rattle.rules.specs.Form.{read}
+use Rattle.rules.specs.Pci.{address, values, misplaced, outside}
+use Rattle.command.specs.View.{sizeAt}
+
+abbrev pub addresses : List ℕ → List ℕ
+addresses [] = []
+addresses (a ∷ []) = []
+addresses (a ∷ v ∷ ps) = a ∷ addresses ps
+
+-- the pairs from number n on
+abbrev pub behind : ℕ → List ℕ → List ℕ
+behind zero ps = ps
+behind (suc n) [] = []
+behind (suc n) (a ∷ []) = []
+behind (suc n) (a ∷ v ∷ ps) = behind n ps
+
+-- some addresses are those of a command's words from word k on
+abbrev pub placed : ℕ → ℕ → List ℕ → Bool
+placed id k [] = true
+placed id k (a ∷ xs) = eqb a (address id k) && placed id (suc k) xs
+
+abbrev pub orElse : Option Refusal → Refusal → Refusal
+orElse (some f) g = f
+orElse none g = g
+
+-- a command's words, as far as the words of a list go
+pub record Sized (l : List ℕ) (at n : ℕ) : Type 0 where
+  pub exact : at + n ≤ length l → n ≡ sizeAt l at
+  pub beyond : length l < at + n → length l < at + sizeAt l at
+  pub some : 0 < n
+
+-- r of a command's pairs, from its first on, are there and in place, and the next is not
+pub record Leading (ps : List ℕ) (at words id r : ℕ) : Type 0 where
+  pub most : r ≤ words
+  pub there : at + r ≤ length (values ps)
+  pub right : placed id 0 (read (addresses ps) at r) ≡ true
+  pub wrong : r < words → at + r < length (values ps) → eqb (getD (addresses ps) (at + r) 0) (address id r) ≡ false
+
+-- 13 or 14 from pair n on
+abbrev pub misplacedFrom : ℕ → List ℕ → Option Refusal
+misplacedFrom n ps = misplaced outside 0 n (behind n ps)
