@@ -48,6 +48,7 @@ pub fn group_at(pairs: &[u32], at: usize) -> Group
 
 // ---- pairs in place
 
+// The four pairs of a group stand at its addresses.
 pub fn group_placed(pairs: &[u32], at: usize, id: u8) -> bool
     requires { ⌜ at + 4 ≤ length (values (now pairs)) ⌝ }
     ensures { λ r. ⌜ r ≡ placed id 0 (read (addresses (now (pairs .entry))) at 4) ⌝ }

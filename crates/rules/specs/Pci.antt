@@ -54,6 +54,7 @@ pub record Inside : Type 0 where
 abbrev pub begun : ℕ → ℕ → Inside
 begun p v = record { first = p; id = idOf v; word = 1 }
 
+-- one pair further in it
 abbrev pub further : Inside → Inside
 further o = record { first = o .first; id = o .id; word = suc (o .word) }
 
@@ -74,9 +75,11 @@ misplaced o left p (a ∷ []) = ended o left
 misplaced o (suc left) p (a ∷ v ∷ ps) = expecting (address (o .id) (o .word)) a p (misplaced (further o) left (suc p) ps)
 misplaced o zero p (a ∷ v ∷ ps) = expecting (address (idOf v) 0) a p (misplaced (begun p v) (commandSize v (values ps) - 1) (suc p) ps)
 
+-- before the first command: none of it is to come
 abbrev pub outside : Inside
 outside = record { first = 0; id = 0; word = 0 }
 
+-- 13 or 14, else what the list recovered gives
 abbrev pub unless : Option Refusal → Parsed → Parsed
 unless (some f) x = refused f
 unless none x = x
