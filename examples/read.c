@@ -1,4 +1,4 @@
-/* Reads a list, writes its normal form, and its PCI writes and the list of these, from C. */
+/* Reads a list, writes its normal form, and its PCI writes and the list of these, and reads two bad lists, from C. */
 #include <inttypes.h>
 #include <stdio.h>
 #include <string.h>
@@ -9,13 +9,28 @@
 
 static void print_answer(const char *name, const uint32_t *answer)
 {
-    printf("%s: verdict %" PRIu32 " at %" PRIu32 ", commands %" PRIu32 ", records %" PRIu32 ", words %" PRIu32 "\n", name,
-           answer[XP10_VERDICT], answer[XP10_POSITION], answer[XP10_COMMANDS], answer[XP10_RECORDS], answer[XP10_WORDS]);
+    printf("%s: verdict %" PRIu32 " at %" PRIu32 ", commands %" PRIu32 ", records %" PRIu32 ", words %" PRIu32
+           ", bit %" PRIu32 "\n",
+           name, answer[XP10_VERDICT], answer[XP10_POSITION], answer[XP10_COMMANDS], answer[XP10_RECORDS],
+           answer[XP10_WORDS], answer[XP10_BIT]);
+}
+
+/* Reads a list that must be refused with this verdict. */
+static void print_refusal(const char *name, const uint32_t *list, size_t list_words, uint32_t verdict)
+{
+    uint32_t image[256] = {0};
+    uint32_t records[4] = {0};
+    uint32_t answer[XP10_ANSWER_WORDS] = {0};
+
+    if (xp10_read(list, list_words, image, WORDS(image), records, WORDS(records), answer, WORDS(answer)) == verdict)
+        print_answer(name, answer);
 }
 
 int main(void)
 {
     static const uint32_t list[] = {0x02000010, 0x00000300, 0x48000000, 0, 0, 0, 0x21000100, 0x10100007, 0, 0, 0};
+    static const uint32_t undefined[] = {0x01000002};
+    static const uint32_t clash[] = {0x84000000, 0x10000000, 0xC0000000, 0};
     uint32_t image[256] = {0};
     static const uint32_t start[256] = {0};
     uint32_t records[4 * WORDS(list)] = {0};
@@ -50,5 +65,8 @@ int main(void)
     pairs[6] += 4;
     xp10_from_pci(pairs, WORDS(pairs), start, WORDS(start), back, WORDS(back), answer, WORDS(answer));
     print_answer("and its address", answer);
+
+    print_refusal("undefined bit", undefined, WORDS(undefined), XP10_UNDEFINED_BIT);
+    print_refusal("page maximum", clash, WORDS(clash), XP10_PAGE_MAXIMUM);
     return 0;
 }

@@ -1,4 +1,4 @@
-//! Reads a list, writes its normal form, and its PCI writes and the list of these, from Rust.
+//! Reads a list, writes its normal form, and its PCI writes and the list of these, and reads two bad lists, from Rust.
 
 extern "C" {
     fn xp10_read(
@@ -46,11 +46,11 @@ extern "C" {
     ) -> u32;
 }
 
-/// Verdict, position, commands, records, words.
-type Answer = [u32; 5];
+/// Verdict, position, commands, records, words, bit.
+type Answer = [u32; 6];
 
 fn read(list: &[u32], image: &mut [u32], records: &mut [u32]) -> Answer {
-    let mut answer = [0; 5];
+    let mut answer = [0; 6];
     // SAFETY: each pointer is of a slice with its length, and no `&mut` slice overlaps another.
     unsafe {
         xp10_read(
@@ -71,7 +71,7 @@ fn read(list: &[u32], image: &mut [u32], records: &mut [u32]) -> Answer {
 type Writer = unsafe extern "C" fn(*const u32, usize, *const u32, usize, *mut u32, usize, *mut u32, usize) -> u32;
 
 fn write(function: Writer, words: &[u32], image: &[u32], out: &mut [u32]) -> Answer {
-    let mut answer = [0; 5];
+    let mut answer = [0; 6];
     // SAFETY: as for `read`.
     unsafe {
         function(
@@ -89,8 +89,10 @@ fn write(function: Writer, words: &[u32], image: &[u32], out: &mut [u32]) -> Ans
 }
 
 fn print_answer(name: &str, answer: Answer) {
-    let [verdict, position, commands, records, words] = answer;
-    println!("{name}: verdict {verdict} at {position}, commands {commands}, records {records}, words {words}");
+    let [verdict, position, commands, records, words, bit] = answer;
+    println!(
+        "{name}: verdict {verdict} at {position}, commands {commands}, records {records}, words {words}, bit {bit}"
+    );
 }
 
 fn main() {
@@ -128,4 +130,7 @@ fn main() {
     print_answer("one value changed", write(xp10_from_pci, &pairs, &start, &mut back));
     pairs[6] += 4;
     print_answer("and its address", write(xp10_from_pci, &pairs, &start, &mut back));
+
+    print_answer("undefined bit", read(&[0x01000002], &mut image, &mut records));
+    print_answer("page maximum", read(&[0x84000000, 0x10000000, 0xC0000000, 0], &mut image, &mut records));
 }

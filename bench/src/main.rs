@@ -1,158 +1,79 @@
-//! Times the proved library against safe Rust on the same lists, once their outputs were found equal.
+//! Times the proved library against safe Rust on the same lists, once their outputs were found equal, and where
+//! `BEFORE_LIB` was set against an earlier build of the library too.
 
+mod library;
 mod lists;
 mod pci;
 mod rust;
 
+#[cfg(before)]
+use library::before;
+use library::proved;
 use lists::Random;
 use pci::pairs_of;
 use std::hint::black_box;
 use std::time::{Duration, Instant};
 
-/// The proved library: each slice is a pointer and a length.
-mod proved {
-    extern "C" {
-        fn xp10_read(
-            list: *const u32,
-            list_len: usize,
-            image: *mut u32,
-            image_len: usize,
-            records: *mut u32,
-            records_len: usize,
-            answer: *mut u32,
-            answer_len: usize,
-        ) -> u32;
-        fn xp10_normalise(
-            list: *const u32,
-            list_len: usize,
-            image: *const u32,
-            image_len: usize,
-            out: *mut u32,
-            out_len: usize,
-            answer: *mut u32,
-            answer_len: usize,
-        ) -> u32;
-        fn xp10_to_pci(
-            list: *const u32,
-            list_len: usize,
-            image: *const u32,
-            image_len: usize,
-            pairs: *mut u32,
-            pairs_len: usize,
-            answer: *mut u32,
-            answer_len: usize,
-        ) -> u32;
-        fn xp10_from_pci(
-            pairs: *const u32,
-            pairs_len: usize,
-            image: *const u32,
-            image_len: usize,
-            list: *mut u32,
-            list_len: usize,
-            answer: *mut u32,
-            answer_len: usize,
-        ) -> u32;
-    }
-
-    pub fn read(list: &[u32], image: &mut [u32], records: &mut [u32], answer: &mut [u32]) -> u32 {
-        // SAFETY: each pointer comes with its slice's own length.
-        unsafe {
-            xp10_read(
-                list.as_ptr(),
-                list.len(),
-                image.as_mut_ptr(),
-                image.len(),
-                records.as_mut_ptr(),
-                records.len(),
-                answer.as_mut_ptr(),
-                answer.len(),
-            )
-        }
-    }
-
-    pub fn normalise(list: &[u32], image: &[u32], out: &mut [u32], answer: &mut [u32]) -> u32 {
-        // SAFETY: each pointer comes with its slice's own length.
-        unsafe {
-            xp10_normalise(
-                list.as_ptr(),
-                list.len(),
-                image.as_ptr(),
-                image.len(),
-                out.as_mut_ptr(),
-                out.len(),
-                answer.as_mut_ptr(),
-                answer.len(),
-            )
-        }
-    }
-
-    pub fn to_pci(list: &[u32], image: &[u32], pairs: &mut [u32], answer: &mut [u32]) -> u32 {
-        // SAFETY: each pointer comes with its slice's own length.
-        unsafe {
-            xp10_to_pci(
-                list.as_ptr(),
-                list.len(),
-                image.as_ptr(),
-                image.len(),
-                pairs.as_mut_ptr(),
-                pairs.len(),
-                answer.as_mut_ptr(),
-                answer.len(),
-            )
-        }
-    }
-
-    pub fn from_pci(pairs: &[u32], image: &[u32], list: &mut [u32], answer: &mut [u32]) -> u32 {
-        // SAFETY: each pointer comes with its slice's own length.
-        unsafe {
-            xp10_from_pci(
-                pairs.as_ptr(),
-                pairs.len(),
-                image.as_ptr(),
-                image.len(),
-                list.as_mut_ptr(),
-                list.len(),
-                answer.as_mut_ptr(),
-                answer.len(),
-            )
-        }
-    }
-}
-
-/// The two implementations, in this order everywhere.
 type Read = fn(&[u32], &mut [u32], &mut [u32], &mut [u32]) -> u32;
 type Write = fn(&[u32], &[u32], &mut [u32], &mut [u32]) -> u32;
-const READ: [Read; 2] = [proved::read, rust::read];
-const NORMALISE: [Write; 2] = [proved::normalise, rust::normalise];
-const TO_PCI: [Write; 2] = [proved::to_pci, pci::to_pci];
-const FROM_PCI: [Write; 2] = [proved::from_pci, pci::from_pci];
 
-/// Runs both writers of one name on one input and holds all that they leave equal.
-fn compare_writers(name: &str, writers: [Write; 2], input: &[u32], image: &[u32], room: usize, numbers: usize) {
-    let [a, b] = writers.map(|write| {
-        let (mut out, mut answer) = (vec![0xAAAA_AAAA; room], vec![0xBBBB_BBBB; numbers]);
-        let verdict = write(input, image, &mut out, &mut answer);
-        (verdict, out, answer)
-    });
-    assert!(a == b, "{name}: the outputs differ on {input:08x?}: {:?} and {:?}", a.2, b.2);
+const COUNT: usize = if cfg!(before) { 3 } else { 2 };
+
+/// The implementations of a function, in one order everywhere: the proved library, Rust, and the library before where
+/// it is linked.
+macro_rules! implementations {
+    ($name:ident, $rust:path) => {
+        [
+            proved::$name,
+            $rust,
+            #[cfg(before)]
+            before::$name,
+        ]
+    };
 }
 
-/// Runs both on one list, from one image and with buffers of one size, and holds all that they leave equal.
-fn compare(list: &[u32], image: &[u32], room: usize, numbers: usize) {
-    let [a, b] = READ.map(|read| {
+const READ: [Read; COUNT] = implementations!(read, rust::read);
+const NORMALISE: [Write; COUNT] = implementations!(normalise, rust::normalise);
+const TO_PCI: [Write; COUNT] = implementations!(to_pci, pci::to_pci);
+const FROM_PCI: [Write; COUNT] = implementations!(from_pci, pci::from_pci);
+
+/// What a call leaves: its verdict, the answer, and the other slices lent to be written.
+type Left = (u32, Vec<u32>, Vec<Vec<u32>>);
+
+fn hold_equal(name: &str, input: &[u32], left: &[Left]) {
+    for other in &left[1..] {
+        let (a, b) = (&left[0].1, &other.1);
+        assert!(*other == left[0], "{name}: the outputs differ on {input:08x?}: {a:?} and {b:?}");
+    }
+}
+
+/// Runs the writers of one name on one input and holds all that they leave equal.
+fn compare_writers(name: &str, writers: &[Write], input: &[u32], image: &[u32], room: usize, numbers: usize) {
+    let left = writers.iter().map(|write| {
+        let (mut out, mut answer) = (vec![0xAAAA_AAAA; room], vec![0xBBBB_BBBB; numbers]);
+        let verdict = write(input, image, &mut out, &mut answer);
+        (verdict, answer, vec![out])
+    });
+    hold_equal(name, input, &left.collect::<Vec<_>>());
+}
+
+/// Runs the first `count` implementations on one list, from one image and with buffers of one size, and holds all that
+/// they leave equal.
+fn compare(count: usize, list: &[u32], image: &[u32], room: usize, numbers: usize) {
+    let left = READ[..count].iter().map(|read| {
         let (mut image, mut records, mut answer) =
             (image.to_vec(), vec![0xAAAA_AAAA; room], vec![0xBBBB_BBBB; numbers]);
         let verdict = read(list, &mut image, &mut records, &mut answer);
-        (verdict, image, records, answer)
+        (verdict, answer, vec![image, records])
     });
-    assert!(a == b, "read: the outputs differ on {list:08x?}: {:?} and {:?}", a.3, b.3);
-    compare_writers("normalise", NORMALISE, list, image, room, numbers);
-    compare_writers("to_pci", TO_PCI, list, image, room, numbers);
+    hold_equal("read", list, &left.collect::<Vec<_>>());
+    compare_writers("normalise", &NORMALISE[..count], list, image, room, numbers);
+    compare_writers("to_pci", &TO_PCI[..count], list, image, room, numbers);
 }
 
 /// The same on pairs.
-fn compare_pairs(pairs: &[u32], image: &[u32], room: usize, numbers: usize) {
-    compare_writers("from_pci", FROM_PCI, pairs, image, room, numbers);
+fn compare_pairs(count: usize, pairs: &[u32], image: &[u32], room: usize, numbers: usize) {
+    compare_writers("from_pci", &FROM_PCI[..count], pairs, image, room, numbers);
 }
 
 /// A spoilt copy: up to two words changed, and often a part of it only.
@@ -174,59 +95,119 @@ fn spoilt(random: &mut Random, words: &[u32]) -> Vec<u32> {
     copy
 }
 
-/// Compares on each list and its pairs as they are, and on spoilt copies with buffers and images of other sizes. Gives
-/// the number of lists compared.
+/// Compares on each list and its pairs as they are, and on spoilt copies with buffers and images of other sizes. The
+/// library before takes part where its answer must be the same: accepted lists, and five numbers. Gives the number of
+/// lists compared.
 fn compare_all(lists: &[Vec<u32>]) -> usize {
     let mut random = Random::new(3);
     let mut done = 0;
     for list in lists {
         let image: Vec<u32> = (0..256).map(|_| random.below(4)).collect();
-        compare(list, &image, list.len().max(4096) * 4, 5);
-        compare_pairs(&pairs_of(list), &image, list.len(), 5);
+        for (count, numbers) in [(2, 6), (COUNT, 5)] {
+            compare(count, list, &image, list.len().max(4096) * 4, numbers);
+            compare_pairs(count, &pairs_of(list), &image, list.len(), numbers);
+        }
         for _ in 0..64 {
             let list = spoilt(&mut random, list);
             let pairs = spoilt(&mut random, &pairs_of(&list));
             let image_len = if random.below(16) == 0 { random.below(300) as usize } else { 256 };
             let image: Vec<u32> = (0..image_len).map(|_| random.next() >> random.below(32)).collect();
             let room = random.below(2 * list.len() as u32 + 8) as usize;
-            let numbers = random.below(7) as usize;
-            compare(&list, &image, room, numbers);
-            compare_pairs(&pairs, &image, room, numbers);
+            let numbers = random.below(8) as usize;
+            compare(2, &list, &image, room, numbers);
+            compare_pairs(2, &pairs, &image, room, numbers);
             done += 1;
         }
         done += 1;
     }
     let long = vec![0; 4097];
-    compare(&long, &[0; 256], 20000, 5);
-    compare(&long[..4096], &[0; 256], 20000, 5);
-    compare(&[], &[0; 256], 0, 5);
+    compare(2, &long, &[0; 256], 20000, 6);
+    compare(2, &long[..4096], &[0; 256], 20000, 6);
+    compare(2, &[], &[0; 256], 0, 6);
     let pairs = [0x2800, 0].repeat(4097);
     for len in [8194, 8193, 8192, 8191, 1, 0] {
-        compare_pairs(&pairs[..len], &[0; 256], 5000, 5);
+        compare_pairs(2, &pairs[..len], &[0; 256], 5000, 6);
     }
     done + 3
 }
 
-/// The shortest time of a round over all lists, for each implementation. The two take turns within a round.
-fn time(rounds: usize, mut run: impl FnMut(usize)) -> [Duration; 2] {
-    let mut best = [Duration::MAX; 2];
-    for round in 0..2 * rounds {
-        let which = round % 2;
-        let start = Instant::now();
-        run(which);
-        best[which] = best[which].min(start.elapsed());
+/// Each clash: a maximum over the bank's limit, that with a minimum against it too, a minimum alone, raster bits, bit
+/// 23 of a load, a plane range.
+const CLASHES: [[u32; 4]; 6] = [
+    [0x8400_0000, 0x1000_0000, 0xC000_0000, 0],
+    [0x8400_0000, 0x2000_0000, 0x7000_7000, 0],
+    [0x8400_0000, 0, 0x4000_4000, 0],
+    [0x8800_4000, 0, 0, 0],
+    [0x4090_0000, 0, 0, 0],
+    [0x4050_2400, 0, 0, 0],
+];
+
+/// Compares on zero commands of each id with one bit changed, and on the clashes. Gives their number.
+fn compare_commands() -> usize {
+    let one_bit = |id: u32, bit: usize| {
+        let mut command = [id << 24, 0, 0, 0];
+        command[bit / 32] ^= 1 << (bit % 32);
+        command
+    };
+    let commands: Vec<_> = (0..256).flat_map(|id| (0..128).map(move |bit| one_bit(id, bit))).chain(CLASHES).collect();
+    for command in &commands {
+        compare(2, command, &[0; 256], 16, 6);
+        compare_pairs(2, &pairs_of(command), &[0; 256], 4, 6);
+    }
+    commands.len()
+}
+
+/// The shortest time of a round over all lists, for each implementation. They take turns within a round.
+fn time(rounds: usize, mut run: impl FnMut(usize)) -> [Duration; COUNT] {
+    let mut best = [Duration::MAX; COUNT];
+    for round in 0..rounds {
+        // Of three, each is first in turn, so that none always follows the same one.
+        let first = if COUNT == 3 { round } else { 0 };
+        for which in (first..first + COUNT).map(|turn| turn % COUNT) {
+            let start = Instant::now();
+            run(which);
+            best[which] = best[which].min(start.elapsed());
+        }
     }
     best
 }
 
-fn line(name: &str, unit: &str, units: usize, [proved, rust]: [Duration; 2]) {
+fn line(name: &str, unit: &str, units: usize, times: [Duration; COUNT]) {
     let per = |t: Duration| t.as_secs_f64() * 1e9 / units as f64;
-    println!(
-        "{name:<32} {:>9.3} {:>9.3}  {unit:<12} {:>6.3}",
-        per(proved),
-        per(rust),
-        proved.as_secs_f64() / rust.as_secs_f64()
-    );
+    let ratio = |t: Duration| times[0].as_secs_f64() / t.as_secs_f64();
+    let [proved, rust] = [times[0], times[1]];
+    print!("{name:<32} {:>9.3} {:>9.3}  {unit:<12} {:>6.3}", per(proved), per(rust), ratio(rust));
+    if let Some(&before) = times.get(2) {
+        print!(" {:>9.3} {:>6.3}", per(before), ratio(before));
+    }
+    println!();
+}
+
+/// Times the four functions on lists of one kind. Each implementation's reader goes on from the image that it left.
+fn time_lists(rounds: usize, name: &str, lists: &[Vec<u32>]) {
+    let mut images = [[0u32; 256]; COUNT];
+    let image = [0u32; 256];
+    let mut buffer = vec![0u32; 16384];
+    let mut answer = [0u32; 6];
+    let words: usize = lists.iter().map(Vec::len).sum();
+    let (units, unit) = if words / lists.len() < 20 { (lists.len(), "ns per call") } else { (words, "ns per word") };
+    let read = time(rounds, |which| {
+        for list in lists {
+            black_box(READ[which](list, &mut images[which], &mut buffer, &mut answer));
+        }
+    });
+    line(&format!("read, {name}"), unit, units, read);
+    let pairs: Vec<_> = lists.iter().map(|list| pairs_of(list)).collect();
+    for (function, writers, inputs) in
+        [("normalise", NORMALISE, lists), ("to_pci", TO_PCI, lists), ("from_pci", FROM_PCI, &pairs)]
+    {
+        let times = time(rounds, |which| {
+            for input in inputs {
+                black_box(writers[which](input, &image, &mut buffer, &mut answer));
+            }
+        });
+        line(&format!("{function}, {name}"), unit, units, times);
+    }
 }
 
 fn main() {
@@ -238,41 +219,11 @@ fn main() {
         ("scenes, large loads", lists::loaded_scenes()),
         ("short lists", lists::short_lists()),
     ];
-    let compared: usize = groups.iter().map(|(_, lists)| compare_all(lists)).sum();
+    let compared = compare_commands() + groups.iter().map(|(_, lists)| compare_all(lists)).sum::<usize>();
     println!("outputs equal on {compared} lists; best of {rounds} rounds, buffers not cleared between calls");
-    println!("{:<32} {:>9} {:>9}  {:<12} {:>6}", "", "proved", "Rust", "", "ratio");
-    let mut images = [[0u32; 256]; 2];
-    let image = [0u32; 256];
-    let mut buffer = vec![0u32; 16384];
-    let mut answer = [0u32; 5];
+    print!("{:<32} {:>9} {:>9}  {:<12} {:>6}", "", "proved", "Rust", "", "ratio");
+    println!("{}", if cfg!(before) { "    before  ratio" } else { "" });
     for (name, lists) in &groups {
-        let words: usize = lists.iter().map(Vec::len).sum();
-        let (units, unit) =
-            if words / lists.len() < 20 { (lists.len(), "ns per call") } else { (words, "ns per word") };
-        let read = time(rounds, |which| {
-            for list in lists {
-                black_box(READ[which](list, &mut images[which], &mut buffer, &mut answer));
-            }
-        });
-        line(&format!("read, {name}"), unit, units, read);
-        let normalise = time(rounds, |which| {
-            for list in lists {
-                black_box(NORMALISE[which](list, &image, &mut buffer, &mut answer));
-            }
-        });
-        line(&format!("normalise, {name}"), unit, units, normalise);
-        let to_pci = time(rounds, |which| {
-            for list in lists {
-                black_box(TO_PCI[which](list, &image, &mut buffer, &mut answer));
-            }
-        });
-        line(&format!("to_pci, {name}"), unit, units, to_pci);
-        let pairs: Vec<_> = lists.iter().map(|list| pairs_of(list)).collect();
-        let from_pci = time(rounds, |which| {
-            for pairs in &pairs {
-                black_box(FROM_PCI[which](pairs, &image, &mut buffer, &mut answer));
-            }
-        });
-        line(&format!("from_pci, {name}"), unit, units, from_pci);
+        time_lists(rounds, name, lists);
     }
 }

@@ -3,8 +3,8 @@
 #![forbid(unsafe_code)]
 
 use crate::rust::{
-    check_all, check_group, check_load, check_raster_mode, check_window_clip, give, group_size, refuse, split, unknown,
-    Counts, Kind, Refusal, IMAGE, LIMIT, LOAD, PRIMITIVE, RASTER_MODE, ROWS, WINDOW_CLIP,
+    check_load, check_raster_mode, check_window_clip, give, group_size, refuse, refused, split, Counts, Kind, Refusal,
+    IMAGE, LIMIT, LOAD, NO_BIT, PRIMITIVE, RASTER_MODE, ROWS, WINDOW_CLIP,
 };
 
 /// The size in words of each id's command, without payload.
@@ -143,21 +143,21 @@ fn write_pairs(mut list: &[u32], mut pairs: &mut [Pair]) {
 #[inline(never)]
 pub fn to_pci(list: &[u32], image: &[u32], pairs: &mut [u32], answer: &mut [u32]) -> u32 {
     if list.len() > LIMIT {
-        return refuse(answer, Refusal(1, LIMIT));
+        return refuse(answer, Refusal::new(1, LIMIT));
     }
     if image.len() != IMAGE {
-        return refuse(answer, Refusal(2, 0));
+        return refuse(answer, Refusal::new(2, 0));
     }
-    let counts = match walk(list.as_chunks::<1>().0).or_else(|_| check_all(list, image)) {
+    let counts = match walk(list.as_chunks::<1>().0).map_err(|at| refused(&list[at..], at)) {
         Ok(counts) => counts,
         Err(refusal) => return refuse(answer, refusal),
     };
     let Some(pairs) = pairs.as_chunks_mut().0.get_mut(..list.len()) else {
-        return refuse(answer, Refusal(11, list.len()));
+        return refuse(answer, Refusal::new(11, list.len()));
     };
     write_pairs(list, pairs);
     let words = list.len() as u32;
-    give(answer, [0, words, counts.commands, counts.records, 2 * words])
+    give(answer, [0, words, counts.commands, counts.records, 2 * words, NO_BIT])
 }
 
 /// The first pair from a command's start on that is out of place, or the start of the command that is cut.
@@ -166,10 +166,10 @@ fn misplaced(mut pairs: &[Pair], mut at: usize) -> Option<Refusal> {
         let size = size(first);
         let (there, rest) = pairs.split_at(size.min(pairs.len()));
         if let Some(i) = (0..there.len()).find(|&i| there[i][0] != address(first) + 4 * (i as u32 % 4)) {
-            return Some(Refusal(13, at + i));
+            return Some(Refusal::new(13, at + i));
         }
         if there.len() < size {
-            return Some(Refusal(14, at));
+            return Some(Refusal::new(14, at));
         }
         pairs = rest;
         at += size;
@@ -179,44 +179,33 @@ fn misplaced(mut pairs: &[Pair], mut at: usize) -> Option<Refusal> {
 
 /// The refusal of pairs whose first command that fails starts here. Any wrong address comes before any wrong word.
 #[cold]
-fn refused(pairs: &[Pair], at: usize) -> Refusal {
+fn refused_pairs(pairs: &[Pair], at: usize) -> Refusal {
     let pairs = &pairs[at..];
-    if let Some(refusal) = misplaced(pairs, at) {
-        return refusal;
-    }
-    let (id, header, row) = split(pairs[0][1]);
-    if row.kind == Kind::Unknown {
-        return unknown(id, at);
-    }
-    if row.size == 1 {
-        return Refusal(if header & !row.masks[0] != 0 { 6 } else { 10 }, at);
-    }
-    // The payload is there, so 9 says that the group has no fault.
-    match check_group(id, header, row, &[header, pairs[1][1], pairs[2][1], pairs[3][1]], at) {
-        Ok(_) | Err(Refusal(9, _)) => Refusal(10, at),
-        Err(refusal) => refusal,
-    }
+    misplaced(pairs, at).unwrap_or_else(|| {
+        let list: Vec<u32> = pairs.iter().map(|pair| pair[1]).collect();
+        refused(&list, at)
+    })
 }
 
 #[inline(never)]
 pub fn from_pci(pairs: &[u32], image: &[u32], list: &mut [u32], answer: &mut [u32]) -> u32 {
     let pairs = pairs.as_chunks::<2>().0;
     if pairs.len() > LIMIT {
-        return refuse(answer, Refusal(1, LIMIT));
+        return refuse(answer, Refusal::new(1, LIMIT));
     }
     if image.len() != IMAGE {
-        return refuse(answer, Refusal(2, 0));
+        return refuse(answer, Refusal::new(2, 0));
     }
-    let counts = match walk(pairs).map_err(|at| refused(pairs, at)) {
+    let counts = match walk(pairs).map_err(|at| refused_pairs(pairs, at)) {
         Ok(counts) => counts,
         Err(refusal) => return refuse(answer, refusal),
     };
     let Some(list) = list.get_mut(..pairs.len()) else {
-        return refuse(answer, Refusal(11, pairs.len()));
+        return refuse(answer, Refusal::new(11, pairs.len()));
     };
     for (word, [_, value]) in list.iter_mut().zip(pairs) {
         *word = *value;
     }
     let words = pairs.len() as u32;
-    give(answer, [0, words, counts.commands, counts.records, words])
+    give(answer, [0, words, counts.commands, counts.records, words, NO_BIT])
 }

@@ -81,8 +81,22 @@ const fn rows() -> [Row; 256] {
 static SETTINGS: [(usize, usize); 9] =
     [(0x02, 1), (0x26, 1), (0x30, 1), (0x31, 1), (0x84, 4), (0x88, 4), (0x8C, 4), (0x90, 4), (0xC4, 4)];
 
-/// A verdict above 0, with its position.
-pub struct Refusal(pub u32, pub usize);
+/// The bit of every verdict but 6.
+pub const NO_BIT: u32 = 32;
+
+/// A verdict above 0.
+pub struct Refusal {
+    verdict: u32,
+    position: usize,
+    bit: u32,
+}
+
+impl Refusal {
+    /// Any but 6.
+    pub fn new(verdict: u32, position: usize) -> Self {
+        Refusal { verdict, position, bit: NO_BIT }
+    }
+}
 
 /// What a list was found to hold.
 pub struct Counts {
@@ -90,15 +104,12 @@ pub struct Counts {
     pub records: u32,
 }
 
-#[cold]
-pub fn unknown(id: u8, at: usize) -> Refusal {
-    Refusal(if id == 3 || id == 4 { 4 } else { 3 }, at)
-}
-
+/// 6: the lowest word with an undefined bit set, and its lowest such bit.
 #[cold]
 fn undefined(words: [u32; 4], masks: &[u32; 4], at: usize) -> Refusal {
-    let word = (0..4).find(|&i| words[i] & !masks[i] != 0).unwrap_or(0);
-    Refusal(6, at + word)
+    let outside = |i: usize| words[i] & !masks[i];
+    let word = (0..4).find(|&i| outside(i) != 0).unwrap_or(0);
+    Refusal { verdict: 6, position: at + word, bit: outside(word).trailing_zeros() }
 }
 
 #[inline(always)]
@@ -108,22 +119,25 @@ pub fn check_load(words: [u32; 4], at: usize) -> Result<(), Refusal> {
         0 | 5 => [true, true, true],
         1 => [true, false, false],
         2 => [false, false, false],
-        _ => return Err(Refusal(7, at)),
+        _ => return Err(Refusal::new(7, at)),
     };
     if let Some(i) = (0..3).find(|&i| zero[i] && words[i + 1] != 0) {
-        return Err(Refusal(7, at + i + 1));
+        return Err(Refusal::new(7, at + i + 1));
     }
     let floats = words[0] >> 23 & 1 != 0;
     let planes = (words[0] >> 10 & 511) + (words[0] & 511);
-    if if code == 5 { planes > 8 } else { floats } {
-        return Err(Refusal(8, at));
+    if code != 5 && floats {
+        return Err(Refusal::new(18, at));
+    }
+    if code == 5 && planes > 8 {
+        return Err(Refusal::new(19, at));
     }
     Ok(())
 }
 
 fn check_primitive(words: [u32; 4], at: usize) -> Result<(), Refusal> {
     match words.iter().position(|&w| w != 0) {
-        Some(i) => Err(Refusal(7, at + i)),
+        Some(i) => Err(Refusal::new(7, at + i)),
         None => Ok(()),
     }
 }
@@ -134,11 +148,14 @@ pub fn check_window_clip(words: [u32; 4], at: usize) -> Result<(), Refusal> {
         0 => 15,
         1 => 11,
         2 => 6,
-        _ => return Err(Refusal(7, at + 1)),
+        _ => return Err(Refusal::new(7, at + 1)),
     };
     let (max, min) = (words[2] >> 28, words[2] >> 12 & 15);
-    if max > limit || (min != 0 && min >= max) {
-        return Err(Refusal(8, at));
+    if max > limit {
+        return Err(Refusal::new(15, at));
+    }
+    if min != 0 && min >= max {
+        return Err(Refusal::new(16, at));
     }
     Ok(())
 }
@@ -146,7 +163,7 @@ pub fn check_window_clip(words: [u32; 4], at: usize) -> Result<(), Refusal> {
 #[inline(always)]
 pub fn check_raster_mode(words: [u32; 4], at: usize) -> Result<(), Refusal> {
     if words[0] & (1 << 22 | 1 << 14) == 1 << 14 {
-        return Err(Refusal(8, at));
+        return Err(Refusal::new(17, at));
     }
     Ok(())
 }
@@ -167,9 +184,9 @@ pub fn group_size(id: u8, header: u32) -> usize {
 
 /// Checks a command of four words, and gives its size.
 #[inline(always)]
-pub fn check_group(id: u8, header: u32, row: &Row, rest: &[u32], at: usize) -> Result<usize, Refusal> {
+fn check_group(id: u8, header: u32, row: &Row, rest: &[u32], at: usize) -> Result<usize, Refusal> {
     let Some(&[_, second, third, fourth]) = rest.first_chunk::<4>() else {
-        return Err(Refusal(5, at));
+        return Err(Refusal::new(5, at));
     };
     let words = [header, second, third, fourth];
     let outside = |i: usize| words[i] & !row.masks[i];
@@ -185,30 +202,28 @@ pub fn check_group(id: u8, header: u32, row: &Row, rest: &[u32], at: usize) -> R
     }
     let size = group_size(id, header);
     if rest.len() < size {
-        return Err(Refusal(9, at));
+        return Err(Refusal::new(9, at));
     }
     Ok(size)
 }
 
-fn check(list: &[u32]) -> Result<Counts, Refusal> {
+/// Checks a list. Gives the start of the first command that fails.
+fn check(list: &[u32]) -> Result<Counts, usize> {
     let mut counts = Counts { commands: 0, records: 0 };
     let mut at = 0;
     let mut flip = false;
     while at < list.len() {
         let rest = &list[at..];
         let (id, header, row) = split(rest[0]);
-        if row.kind == Kind::Unknown {
-            return Err(unknown(id, at));
-        }
         let size = if row.size == 4 {
-            check_group(id, header, row, rest, at)?
-        } else if header & !row.masks[0] != 0 {
-            return Err(Refusal(6, at));
+            check_group(id, header, row, rest, at).map_err(|_| at)?
+        } else if row.kind == Kind::Unknown || header & !row.masks[0] != 0 {
+            return Err(at);
         } else {
             1
         };
         if flip && row.kind != Kind::Begin {
-            return Err(Refusal(10, at));
+            return Err(at);
         }
         flip = matches!(id, 0x21 | 0x23 | 0x25);
         counts.commands += 1;
@@ -218,26 +233,44 @@ fn check(list: &[u32]) -> Result<Counts, Refusal> {
     Ok(counts)
 }
 
-/// Writes as many of the five numbers as the buffer has room for, and gives the verdict.
-pub fn give(answer: &mut [u32], numbers: [u32; 5]) -> u32 {
+/// The refusal of the command that these words start with, once it was found to fail.
+#[cold]
+pub fn refused(words: &[u32], at: usize) -> Refusal {
+    let (id, header, row) = split(words[0]);
+    if row.kind == Kind::Unknown {
+        return Refusal::new(if matches!(id, 3 | 4) { 4 } else { 3 }, at);
+    }
+    if row.size == 1 && header & !row.masks[0] != 0 {
+        return undefined([header, 0, 0, 0], &row.masks, at);
+    }
+    if row.size == 4 {
+        if let Err(refusal) = check_group(id, header, row, words, at) {
+            return refusal;
+        }
+    }
+    Refusal::new(10, at)
+}
+
+/// Writes as many of the six numbers as the buffer has room for, and gives the verdict.
+pub fn give(answer: &mut [u32], numbers: [u32; 6]) -> u32 {
     for (slot, number) in answer.iter_mut().zip(numbers) {
         *slot = number;
     }
     numbers[0]
 }
 
-pub fn refuse(answer: &mut [u32], Refusal(verdict, position): Refusal) -> u32 {
-    give(answer, [verdict, position as u32, 0, 0, 0])
+pub fn refuse(answer: &mut [u32], refusal: Refusal) -> u32 {
+    give(answer, [refusal.verdict, refusal.position as u32, 0, 0, 0, refusal.bit])
 }
 
-pub fn check_all(list: &[u32], image: &[u32]) -> Result<Counts, Refusal> {
+fn check_all(list: &[u32], image: &[u32]) -> Result<Counts, Refusal> {
     if list.len() > LIMIT {
-        return Err(Refusal(1, LIMIT));
+        return Err(Refusal::new(1, LIMIT));
     }
     if image.len() != IMAGE {
-        return Err(Refusal(2, 0));
+        return Err(Refusal::new(2, 0));
     }
-    check(list)
+    check(list).map_err(|at| refused(&list[at..], at))
 }
 
 /// Applies an accepted list.
@@ -278,12 +311,12 @@ pub fn read(list: &[u32], image: &mut [u32], records: &mut [u32], answer: &mut [
     };
     let words = 4 * counts.records;
     if records.len() < words as usize {
-        return refuse(answer, Refusal(11, list.len()));
+        return refuse(answer, Refusal::new(11, list.len()));
     }
     if let Ok(image) = image.try_into() {
         apply(list, image, records);
     }
-    give(answer, [0, list.len() as u32, counts.commands, counts.records, words])
+    give(answer, [0, list.len() as u32, counts.commands, counts.records, words, NO_BIT])
 }
 
 /// Where the words of a form go.
@@ -393,18 +426,18 @@ pub fn normalise(list: &[u32], image: &[u32], out: &mut [u32], answer: &mut [u32
         Err(refusal) => return refuse(answer, refusal),
     };
     let Ok(image) = image.try_into() else {
-        return refuse(answer, Refusal(2, 0));
+        return refuse(answer, Refusal::new(2, 0));
     };
     // A form is never longer than its list.
     if out.len() < list.len() {
         let mut count = Count(0);
         form(list, image, &mut count);
         if out.len() < count.0 {
-            return refuse(answer, Refusal(11, list.len()));
+            return refuse(answer, Refusal::new(11, list.len()));
         }
     }
     let mut write = Write { out, len: 0 };
     form(list, image, &mut write);
     let words = write.len as u32;
-    give(answer, [0, list.len() as u32, counts.commands, counts.records, words])
+    give(answer, [0, list.len() as u32, counts.commands, counts.records, words, NO_BIT])
 }

@@ -15,7 +15,9 @@
 extern "C" {
 #endif
 
-/* Verdicts, each with its position. */
+/*
+ * Verdicts, each with its position. Of one command the first of 3 to 7, then 15 to 19, then 9 and 10 is told.
+ */
 enum {
     XP10_ACCEPTED = 0,         /* the list's length */
     XP10_LIST_TOO_LONG = 1,    /* more than 4,096 words: 4096 */
@@ -23,23 +25,31 @@ enum {
     XP10_UNKNOWN_ID = 3,       /* the command's first word */
     XP10_PCI_ONLY = 4,         /* id 03 or 04: the command's first word */
     XP10_GROUP_CUT_SHORT = 5,  /* fewer than four words left: the command's first word */
-    XP10_UNDEFINED_BIT = 6,    /* the lowest such word */
+    XP10_UNDEFINED_BIT = 6,    /* the lowest such word; XP10_BIT is the lowest such bit in it */
     XP10_ILLEGAL_VALUE = 7,    /* the lowest such word */
-    XP10_CLASH = 8,            /* clip thresholds, raster bits, bit 23 of a load, plane range: the command's first word */
     XP10_PAYLOAD_CUT_SHORT = 9, /* the command's first word */
     XP10_NO_BEGIN = 10,        /* follows a surface base and is no BEGIN: the command's first word */
     XP10_BUFFER_TOO_SMALL = 11, /* the list's length */
     XP10_WRONG_ADDRESS = 13,   /* of a PCI write: the number of that pair, from 0 on */
-    XP10_PAIRS_CUT_SHORT = 14  /* PCI writes that end inside a command: the number of the command's first pair */
+    XP10_PAIRS_CUT_SHORT = 14, /* PCI writes that end inside a command: the number of the command's first pair */
+    XP10_PAGE_MAXIMUM = 15,    /* window clip: the page maximum is over the bank's limit: the command's first word */
+    XP10_PAGE_MINIMUM = 16,    /* window clip: the page minimum is not below the maximum: the command's first word */
+    XP10_RASTER_BITS = 17,     /* raster mode: bit 14 without bit 22: the command's first word */
+    XP10_LOAD_FLOATS = 18,     /* bit 23 of a load whose code is not 5: the command's first word */
+    XP10_PLANE_RANGE = 19      /* a load of user clip planes behind the eighth: the command's first word */
 };
 
-/* The numbers of an answer. Those that `answer` has no room for are left out. After a refusal the last three are 0. */
+/*
+ * The numbers of an answer. Those that `answer` has no room for are left out: five words leave out the bit. After a refusal
+ * XP10_COMMANDS, XP10_RECORDS and XP10_WORDS are 0.
+ */
 enum {
     XP10_VERDICT,
     XP10_POSITION,
     XP10_COMMANDS,
     XP10_RECORDS,
     XP10_WORDS, /* the words written to `records`, `out`, `pairs` or `list` */
+    XP10_BIT,   /* with XP10_UNDEFINED_BIT the number of the lowest undefined bit set in the word, else 32 */
     XP10_ANSWER_WORDS
 };
 

@@ -4,8 +4,8 @@ use crate::lists::{self, Case, Image};
 use crate::outcome::{self, Function};
 use crate::rules;
 
-/// 12 is the listing program's alone.
-const VERDICTS: usize = 15;
+/// 8 is no longer given, and 12 is the listing program's alone.
+const VERDICTS: usize = 20;
 
 /// How often each function gave each verdict.
 #[derive(Default)]
@@ -98,6 +98,7 @@ mod with_proved {
     use super::*;
     use crate::outcome::{prefilled, Outcome};
     use crate::proved::{self, Call};
+    use crate::rules::ANSWER_WORDS;
 
     /// Differing cases that are written out.
     const SHOWN: u64 = 5;
@@ -127,9 +128,10 @@ mod with_proved {
         differing == 0
     }
 
-    /// Mostly room for the whole answer, at times less or more.
+    /// Mostly room for the whole answer, at times less, as for the five numbers without the bit, or
+    /// more.
     fn answer_len(index: usize) -> usize {
-        [5, 5, 5, 5, 5, 0, 1, 2, 3, 4, 6, 9, 5][index % 13]
+        [6, 6, 5, 6, 6, 0, 6, 1, 6, 2, 5, 3, 6, 4, 7, 9, 6][index % 17]
     }
 
     fn compare_case(case: &Case, answer_len: usize, tally: &mut Tally) -> Vec<String> {
@@ -155,7 +157,7 @@ mod with_proved {
             found.push(format!("{name} returned {}, expected {returned}", call.returned));
         }
         let mut answer = prefilled(call.answer.len());
-        let room = answer.len().min(5);
+        let room = answer.len().min(ANSWER_WORDS);
         answer[..room].copy_from_slice(&expected.answer[..room]);
         if call.answer != answer {
             found.push(format!("{name} answer {:?}, expected {answer:?}", call.answer));

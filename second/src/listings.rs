@@ -41,7 +41,7 @@ pub fn stored_inputs() -> Vec<(&'static str, Vec<u8>)> {
     inputs
 }
 
-/// 2 and 11 are never printed: the program has its own image and enough room.
+/// 2, 11, 13 and 14 are never printed: the program has its own image, enough room and no pairs.
 fn inputs() -> Vec<(&'static str, Vec<u8>)> {
     let most = 4 * MAX_LIST_WORDS;
     let flushes = |count: usize| bytes(&(0..count as u32).collect::<Vec<u32>>());
@@ -60,9 +60,13 @@ fn inputs() -> Vec<(&'static str, Vec<u8>)> {
         ("refused-5", bytes(&[0x84000000, 0, 0])),
         ("refused-6", bytes(&[0x10000000, 0, 0x10000000, 0])),
         ("refused-7", bytes(&[0x05000000, 0x84000000, 0x30000000, 0, 0])),
-        ("refused-8", bytes(&[0x02000001, 0x88004000, 0, 0, 0])),
         ("refused-9", bytes(&[0x00000001, 0x40500001, 0, 0, 0, 0, 0, 0])),
         ("refused-10", bytes(&[0x21000000, 0x21000000])),
+        ("refused-15", bytes(&[0x02000001, 0x84000000, 0x10000000, 0xC000C000, 0])),
+        ("refused-16", bytes(&[0x00000001, 0x84000000, 0, 0x40004000, 0])),
+        ("refused-17", bytes(&[0x02000001, 0x88004000, 0, 0, 0])),
+        ("refused-18", bytes(&[0x00000001, 0x00000001, 0x40800000, 0, 0, 0])),
+        ("refused-19", bytes(&[0x40501C02, 0, 0, 0])),
         ("refused-12-one-byte", vec![0x06]),
         ("refused-12-two-bytes", with_more(bytes(&[0x06000000]), 2)),
         ("refused-12-three-bytes", with_more(bytes(&paper::LISTING_WORDS), 3)),

@@ -1,4 +1,5 @@
-//! A second implementation of document 01, to compare with the proved one.
+//! A second implementation of document 01, with Tickets 1 and 2 of document 02, to compare with the
+//! proved one.
 
 mod compare;
 mod listings;

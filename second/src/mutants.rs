@@ -1,6 +1,7 @@
 //! Every single change of the rules, and the stored case of the gate that sees it.
 
 mod changes;
+mod clashes;
 mod effects;
 mod equivalent;
 mod orders;

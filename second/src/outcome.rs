@@ -1,7 +1,7 @@
 //! What a call gives for a case: the answer, and all lent words afterwards.
 
 use crate::lists::Case;
-use crate::rules::{self, Rules};
+use crate::rules::{self, Rules, ANSWER_WORDS};
 
 #[derive(Clone, Copy, Debug, PartialEq, Eq)]
 pub enum Function {
@@ -38,15 +38,16 @@ impl Function {
 
     /// The verdicts that it gives. Pairs that are through have no command cut short.
     pub fn verdicts(self) -> Vec<u32> {
-        match self {
-            Function::FromPci => vec![0, 1, 2, 3, 4, 6, 7, 8, 10, 11, 13, 14],
-            _ => (0..=11).collect(),
-        }
+        let own: &[u32] = match self {
+            Function::FromPci => &[0, 1, 2, 3, 4, 6, 7, 10, 11, 13, 14],
+            _ => &[0, 1, 2, 3, 4, 5, 6, 7, 9, 10, 11],
+        };
+        [own, &[15, 16, 17, 18, 19]].concat()
     }
 }
 
 pub struct Outcome {
-    pub answer: [u32; 5],
+    pub answer: [u32; ANSWER_WORDS],
     pub image: Vec<u32>,
     /// For the records, the form, the pairs or the list of pairs.
     pub buffer: Vec<u32>,

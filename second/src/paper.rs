@@ -1,4 +1,6 @@
-//! The cases of document 01 and the guide's own words.
+//! The cases of document 01, with the numbers of Ticket 2, and the guide's own words.
+
+use crate::rules::NO_BIT;
 
 pub enum Expected {
     /// Accepted by the reader, with this many commands.
@@ -13,6 +15,7 @@ pub enum Expected {
     Refused {
         verdict: u32,
         position: u32,
+        bit: u32,
     },
     Form(&'static [u32]),
 }
@@ -35,7 +38,12 @@ const fn refused(
     verdict: u32,
     position: u32,
 ) -> PaperCase {
-    PaperCase { name, list, timer: 0, expected: Expected::Refused { verdict, position } }
+    let expected = Expected::Refused { verdict, position, bit: NO_BIT };
+    PaperCase { name, list, timer: 0, expected }
+}
+
+const fn undefined(name: &'static str, list: &'static [u32], position: u32, bit: u32) -> PaperCase {
+    PaperCase { name, list, timer: 0, expected: Expected::Refused { verdict: 6, position, bit } }
 }
 
 const fn form(
@@ -60,11 +68,11 @@ pub const CASES: [PaperCase; 27] = [
     refused("P3", &[0x03000000], 4, 0),
     refused("P4", &[0x06000000], 3, 0),
     refused("P5", &[0x84000000, 0, 0], 5, 0),
-    refused("P6", &[0x01000002], 6, 0),
+    undefined("P6", &[0x01000002], 0, 1),
     refused("P7", &[0x84000000, 0x30000000, 0, 0], 7, 1),
-    refused("P8", &[0x84000000, 0x10000000, 0xC0000000, 0], 8, 0),
-    refused("P9", &[0x84000000, 0, 0x40004000, 0], 8, 0),
-    refused("P10", &[0x88004000, 0, 0, 0], 8, 0),
+    refused("P8", &[0x84000000, 0x10000000, 0xC0000000, 0], 15, 0),
+    refused("P9", &[0x84000000, 0, 0x40004000, 0], 16, 0),
+    refused("P10", &[0x88004000, 0, 0, 0], 17, 0),
     refused("P11", &[0x40500001, 0, 0, 0, 0, 0, 0], 9, 0),
     refused("P12", &[0x21000000, 0x21000000], 10, 1),
     form("N1", N1_LIST, 0, &[0x02000020, 0x00000001]),
@@ -79,7 +87,7 @@ pub const CASES: [PaperCase; 27] = [
     accepted("run only 6", &[0x40500001, 0, 0, 0, 0, 0, 0, 0], 1),
     accepted("run only 7", &[0x40501C01, 0, 0, 0, 0, 0, 0, 0], 1),
     accepted("run only 8", &[0x21000000], 1),
-    refused("run only 9", &[0x40501C02, 0, 0, 0], 8, 0),
+    refused("run only 9", &[0x40501C02, 0, 0, 0], 19, 0),
     accepted("guide fetch", GUIDE_FETCH, 1),
     accepted("guide put", GUIDE_PUT, 1),
 ];

@@ -1,4 +1,5 @@
-//! Reading, normalising and listing by document 01, and PCI writes by Ticket 1 of document 02.
+//! Reading, normalising and listing by document 01, with PCI writes by Ticket 1 of document 02, and
+//! the bit and the clashes told by Ticket 2.
 //!
 //! What the documents fix stands in `document` as a value of `Rules`; here is what they say to do
 //! with it. Nothing may panic for a `Rules` with one part changed, so that `mutants` can run it.
@@ -13,7 +14,7 @@ mod shape;
 use std::ops::Range;
 use std::sync::LazyLock;
 
-pub use document::{Terms, IMAGE_WORDS, MAX_LIST_WORDS, RECORD_WORDS};
+pub use document::{Terms, IMAGE_WORDS, MAX_LIST_WORDS, NO_BIT, RECORD_WORDS};
 pub use language::{Address, Comparison, Facts, Field, Mask, Set, Test, Value};
 pub use shape::*;
 
@@ -34,11 +35,15 @@ pub struct Answer {
     pub commands: u32,
     pub records: u32,
     pub words: u32,
+    pub bit: u32,
 }
 
+/// The numbers of an answer.
+pub const ANSWER_WORDS: usize = 6;
+
 impl Answer {
-    pub fn numbers(&self) -> [u32; 5] {
-        [self.verdict, self.position, self.commands, self.records, self.words]
+    pub fn numbers(&self) -> [u32; ANSWER_WORDS] {
+        [self.verdict, self.position, self.commands, self.records, self.words, self.bit]
     }
 }
 
@@ -46,12 +51,18 @@ impl Answer {
 pub struct Refusal {
     pub verdict: u32,
     pub position: usize,
+    pub bit: u32,
 }
 
 impl Refusal {
+    /// One that tells no bit.
+    pub fn new(verdict: u32, position: usize) -> Refusal {
+        Refusal { verdict, position, bit: NO_BIT }
+    }
+
     pub fn answer(self) -> Answer {
-        let (verdict, position) = (self.verdict, self.position as u32);
-        Answer { verdict, position, commands: 0, records: 0, words: 0 }
+        let Refusal { verdict, position, bit } = self;
+        Answer { verdict, position: position as u32, commands: 0, records: 0, words: 0, bit }
     }
 }
 
@@ -95,7 +106,11 @@ impl Rules {
                     Position::ListLength => facts.list_words,
                     Position::WholeWordsRead => facts.input_bytes / 4,
                 };
-                return Err(Refusal { verdict: check.verdict, position });
+                let bit = match check.when {
+                    When::UndefinedBit(_) => self.told_bit.of_word(word, row, facts.words),
+                    _ => self.told_bit.otherwise,
+                };
+                return Err(Refusal { verdict: check.verdict, position, bit });
             }
         }
         Ok(())
@@ -104,7 +119,7 @@ impl Rules {
     /// The first word of the command with a bit outside its mask.
     fn undefined_word(&self, row: &Row, words: &[u32], which: WhichWord) -> Option<usize> {
         let outside = |&k: &usize| {
-            let word = if k == 0 { self.tested_header.of(words) } else { words[k] };
+            let word = word_below_id(k, self.tested_header, words);
             word & !row.masks[k].bits != 0
         };
         which.of(0..words.len(), outside)
@@ -154,7 +169,7 @@ impl Rules {
             found.push(command);
         }
         let refused_end = after_base && !self.base_may_end_list;
-        (found, refused_end.then_some(Refusal { verdict: 10, position: at }))
+        (found, refused_end.then_some(Refusal::new(10, at)))
     }
 
     pub fn commands<'a>(&'a self, list: &'a [u32]) -> Result<Vec<Command<'a>>, Refusal> {
@@ -177,6 +192,7 @@ impl Rules {
             commands: commands.len() as u32,
             records: commands.iter().filter(|c| c.is_work()).count() as u32,
             words: words as u32,
+            bit: self.told_bit.otherwise,
         }
     }
 
@@ -277,6 +293,43 @@ impl WhichWord {
             WhichWord::Lowest => all.find(found),
             WhichWord::Highest => all.rev().find(found),
         }
+    }
+}
+
+impl ToldBit {
+    /// The bit told of a command whose word `k` is undefined.
+    fn of_word(&self, k: usize, row: &Row, words: &[u32]) -> u32 {
+        let bits = |k: usize| {
+            let (word, undefined) = (word_below_id(k, self.header, words), !row.masks[k].bits);
+            match self.among {
+                Among::UndefinedAndSet => word & undefined,
+                Among::Set => word,
+                Among::Undefined => undefined,
+            }
+        };
+        let bits = match self.of {
+            BitOf::That => bits(k),
+            BitOf::First => bits(0),
+            BitOf::Last => bits(words.len() - 1),
+            BitOf::Any => (0..words.len()).fold(0, |all, k| all | bits(k)),
+        };
+        let number = match self.which {
+            WhichBit::Lowest => bits.trailing_zeros(),
+            WhichBit::Highest => bits.checked_ilog2().unwrap_or(NO_BIT),
+        };
+        match self.numbered {
+            Numbered::FromLowest => number,
+            Numbered::FromHighest => 31_u32.wrapping_sub(number),
+            Numbered::AsMask => 1_u32.checked_shl(number).unwrap_or(0),
+        }
+    }
+}
+
+/// Word `k` of a command, or the header for the first one.
+fn word_below_id(k: usize, header: Field, words: &[u32]) -> u32 {
+    match k {
+        0 => header.of(words),
+        _ => words[k],
     }
 }
 

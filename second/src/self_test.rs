@@ -1,18 +1,19 @@
-//! Checks of the rules: the paper's cases, and demand 3 on random lists.
+//! Checks of the rules: the paper's cases, and on random lists demand 3 and the bit told.
 
 use crate::listings::bytes;
 use crate::lists::{self, Purpose};
 use crate::outcome::{self, prefilled, Function};
 use crate::paper::{self, Expected, PaperCase};
 use crate::prng::Prng;
-use crate::rules::{self, Answer, IMAGE_WORDS, RECORD_WORDS};
+use crate::rules::{self, Answer, Refusal, IMAGE_WORDS, NO_BIT, RECORD_WORDS};
 
 /// Each panics when it fails.
-pub const CHECKS: [(&str, fn()); 8] = [
+pub const CHECKS: [(&str, fn()); 9] = [
     ("cases of document 01", paper_cases),
     ("the guide's writes", guide_writes),
     ("listing", listings),
     ("lent words", lent_words),
+    ("the bit told", told_bit),
     ("room", room),
     ("demand 3", demand_3),
     ("equal doings, equal forms", equal_doings),
@@ -34,6 +35,7 @@ fn paper_case(case: &PaperCase) {
     let (answer, _) = records(case.list, &mut image);
     assert_eq!(form_answer.verdict, answer.verdict, "{}", case.name);
     assert_eq!(form_answer.position, answer.position, "{}", case.name);
+    assert_eq!(form_answer.bit, answer.bit, "{}", case.name);
     match case.expected {
         Expected::Accepted { commands } => {
             assert_eq!((answer.verdict, answer.commands), (0, commands), "{}", case.name)
@@ -41,8 +43,9 @@ fn paper_case(case: &PaperCase) {
         Expected::Image { word, value } => {
             assert_eq!((answer.verdict, image[word]), (0, value), "{}", case.name)
         }
-        Expected::Refused { verdict, position } => {
-            assert_eq!((answer.verdict, answer.position), (verdict, position), "{}", case.name)
+        Expected::Refused { verdict, position, bit } => {
+            let given = (answer.verdict, answer.position, answer.bit);
+            assert_eq!(given, (verdict, position, bit), "{}", case.name)
         }
         Expected::Form(expected) => assert_eq!(form, expected, "{}", case.name),
     }
@@ -70,6 +73,8 @@ fn listings() {
     assert_eq!(rules::paper().listing(&[0; 16_385]), "refused 1 at 4096\n");
     assert_eq!(rules::paper().listing(&[0x06; 5]), "refused 12 at 1\n");
     assert_eq!(rules::paper().listing(&bytes(&[0x03000000])), "refused 4 at 0\n");
+    assert_eq!(rules::paper().listing(&bytes(&[0x01000002])), "refused 6 at 0\n");
+    assert_eq!(rules::paper().listing(&bytes(&[0x40501C02, 0, 0, 0])), "refused 19 at 0\n");
 }
 
 /// A refusal changes nothing; after acceptance the words behind those written are as before.
@@ -79,7 +84,7 @@ fn lent_words() {
         let case = of(&mut Prng::new(11, number), Purpose::Run);
         for function in Function::ALL {
             let outcome = outcome::of(function, rules::paper(), &case);
-            let [verdict, position, commands, records, words] = outcome.answer;
+            let [verdict, position, commands, records, words, _] = outcome.answer;
             let before = prefilled(outcome.buffer.len());
             assert_eq!(outcome.buffer[words as usize..], before[words as usize..]);
             if verdict == 0 {
@@ -95,6 +100,40 @@ fn lent_words() {
     }
 }
 
+/// The bit is below 32 exactly with 6, and is then one that is set in the word at the position.
+fn told_bit() {
+    let mut told = [0; 32];
+    for number in 0..RANDOM_LISTS {
+        let of = if number % 3 == 2 { lists::random_pairs } else { lists::random_case };
+        let case = of(&mut Prng::new(16, number), Purpose::Run);
+        for function in Function::ALL {
+            let [verdict, position, .., bit] = outcome::of(function, rules::paper(), &case).answer;
+            assert_eq!(bit < NO_BIT, verdict == 6);
+            assert!(bit <= NO_BIT);
+            if verdict == 6 {
+                told[bit as usize] += 1;
+                bit_is_lowest(function.list_of(&case), position as usize, bit);
+            }
+        }
+    }
+    assert!(told.iter().all(|count| *count > 10), "{told:?}");
+}
+
+/// Without this bit the list's refusal is another, without all lower ones of the word the same.
+fn bit_is_lowest(list: Vec<u32>, position: usize, bit: u32) {
+    let word = list[position];
+    assert!(word >> bit & 1 == 1, "bit {bit} of {word:08X}");
+    let refusal_without = |bits: u32| {
+        let mut other = list.clone();
+        other[position] &= !bits;
+        rules::paper().walk(&other).1
+    };
+    let refusal = Some(Refusal { verdict: 6, position, bit });
+    assert_eq!(refusal_without(0), refusal);
+    assert_ne!(refusal_without(1 << bit), refusal);
+    assert_eq!(refusal_without((1 << bit) - 1), refusal);
+}
+
 /// 11 is given exactly when the words to write don't fit.
 fn room() {
     for number in 0..RANDOM_LISTS {
@@ -106,8 +145,7 @@ fn room() {
             assert_eq!(read, normalised);
             continue;
         }
-        let length = case.list.len() as u32;
-        let too_small = Answer { verdict: 11, position: length, commands: 0, records: 0, words: 0 };
+        let too_small = Refusal::new(11, case.list.len()).answer();
         let needed = read.words as usize;
         for (room, fits) in [(needed, true), (needed + 3, true), (needed.wrapping_sub(1), false)] {
             if room == usize::MAX {
@@ -286,6 +324,11 @@ mod tests {
     #[test]
     fn lent_words() {
         super::lent_words();
+    }
+
+    #[test]
+    fn told_bit() {
+        super::told_bit();
     }
 
     #[test]

@@ -15,18 +15,18 @@ use Rattle.rules.specs.declared.Refusal.{Refusal}
 use Rattle.rules.specs.Word.{idOf, headerOf, undefined}
 use Rattle.rules.specs.Table.{Row, rowOf, isSetting, isBegin, isBase}
 use Rattle.rules.specs.Command.{payload, restSize, commandSize}
-use Rattle.rules.specs.Values.{refusal, valueFaults, faults}
+use Rattle.rules.specs.Values.{refusal, undefinedBit, shift, valueFaults, faults}
 use Rattle.rules.specs.Decode.{Decoded, bad, good, firstFault, unknown, decodeRow, decode}
 use Rattle.rules.proofs.Numbers.{faults-proper}
 use Rattle.table.specs.declared.Group.{Group}
-use Rattle.command.specs.declared.Decoded.the-variants.{Command}
+use Rattle.command.specs.declared.Decoded.the-variants.{Command, Refused}
 use Rattle.table.specs.Ids.{ofRow, isGroup, groupId}
 use Rattle.table.specs.Tables.{more, beginRow, rowNumber, rowTable, rowAt, rowMasks}
-use Rattle.command.specs.Faults.{firstRefusal, found, own, outside}
-use Rattle.command.specs.Faults.{none as noFault}
+use Rattle.faults.specs.Faults.{firstRefusal, found, own, outside}
+use Rattle.faults.specs.Faults.{none as noFault}
 use Rattle.command.specs.View.{groupAt, sizeAt, refusedAt, singleOf, groupOf, view, decodedAt, KnownAt}
 use Rattle.table.proofs.Tables.{Known, ruled, known, known-row, unknown-row, row-at}
-use Rattle.command.proofs.FirstFault.{first-fault, first-near, faulty-is, single-fault}
+use Rattle.faults.proofs.FirstFault.{first-fault, first-near, faulty-is, single-fault}
 
 not-found : (f : Refusal) → found f ≡ true → f .number ≡ 0 → ⊥
 not-found f e z = let y : _≡_ {A = Bool} false true = ap (λ (n : ℕ). not (eqb n 0)) (sym z) ∙ e in let x : _≡_ {A = ℕ} 0 1 = cc in omega arith
@@ -157,8 +157,8 @@ module _ (l : List ℕ) (at id : ℕ) (ei : id ≡ idOf (getD l at 0)) (small : 
           ∙ ap (λ (o : List ℕ). view at (firstFault (faults (rowAt id) h o) whole)) (own-at (groupId id) (k .length-more) fits)
           ∙ ap (view at) (first-fault _ fs whole (faults-proper (rowAt id) h (own (rowAt id) (groupAt l at))))
 
-      -- 6, 7 and 8
-      pub decoded-fault : found firstAt ≡ true → decodedAt l at ≡ refusedAt (firstAt .number) (at + firstAt .word)
+      -- 6, 7 and 15 to 19
+      pub decoded-fault : found firstAt ≡ true → decodedAt l at ≡ Refused (shift at firstAt)
       decoded-fault e = by-fault ∙ rw (ne-eqb (firstAt .number) 0 (not-found firstAt e))
 
       module _ (clear : found firstAt ≡ false) where
@@ -208,21 +208,23 @@ module _ (l : List ℕ) (at id row : ℕ) (a : KnownAt l at id row) (small : id 
   fits-one = rw single (omega (arith, a .inside))
 
   module _ (header : ℕ) (m : Group) (b : Bool) (eh : header ≡ headerOf (getD l at 0)) (em : m ≡ rowMasks row) (eb : b ≡ undefined header (m .header)) where
-    by-bit : firstAt l at id (a .id-is) small k₁ fits-one ≡ cond b (refusal 6 0) noFault
+    by-bit : firstAt l at id (a .id-is) small k₁ fits-one ≡ cond b (undefinedBit 0 header (m .header)) noFault
     unfolding firstAt
     by-bit = rw (k₁ .length-more, single, eb, eh, em, a .row-is) (single-fault id (headerOf (getD l at 0)) k₁ single)
 
     -- 6
-    pub decoded-single-bad : b ≡ true → decodedAt l at ≡ refusedAt 6 at
-    decoded-single-bad t =
-        let six : firstAt l at id (a .id-is) small k₁ fits-one ≡ refusal 6 0 = by-bit ∙ ap (λ (x : Bool). cond x (refusal 6 0) noFault) t in
-        decoded-fault l at id (a .id-is) small k₁ fits-one (ap found six) ∙ rw (six, add-zero at)
+    pub decoded-single-bad : b ≡ true → (g : Group) (f : Refusal) → f ≡ firstRefusal (faults (rowAt id) header (own (rowAt id) g))
+        → decodedAt l at ≡ Refused (shift at f)
+    unfolding firstAt
+    decoded-single-bad t g f ef =
+        let found-it = ap found (by-bit ∙ ap (λ (x : Bool). cond x (undefinedBit 0 header (m .header)) noFault) t) in
+        decoded-fault l at id (a .id-is) small k₁ fits-one found-it ∙ rw (ef, eh, k₁ .length-more, single)
 
     pub decoded-single : b ≡ false → decodedAt l at ≡ singleOf row
     decoded-single t =
         let one = size-single l at id (a .id-is) small single in
         let begin : isBegin (rowAt id .kind) ≡ false = rw single at (k₁ .apart) in
-        decoded-command l at id (a .id-is) small k₁ fits-one (ap found (by-bit ∙ ap (λ (x : Bool). cond x (refusal 6 0) noFault) t)) (omega (arith, a .inside))
+        decoded-command l at id (a .id-is) small k₁ fits-one (ap found (by-bit ∙ ap (λ (x : Bool). cond x (undefinedBit 0 header (m .header)) noFault) t)) (omega (arith, a .inside))
         ∙ rw (one, begin, k₁ .base, k₁ .setting-row, single, a .row-is)
 
 -- ---- a command of four
@@ -243,12 +245,11 @@ module _ (l : List ℕ) (at id row : ℕ) (a : KnownAt l at id row) (small : id 
     unfolding firstAt
     first-is = ap (λ (x : Group). firstRefusal (faults (rowAt id) (x .header) (own (rowAt id) x))) eg
 
-    -- 6 to 8
+    -- 6, 7 and 15 to 19
     pub group-fault : found (firstRefusal (faults (rowAt id) (g .header) (own (rowAt id) g))) ≡ true
-        → (f : Refusal) → f ≡ firstRefusal (faults (rowAt id) (g .header) (own (rowAt id) g)) → decodedAt l at ≡ refusedAt (f .number) (at + f .word)
+        → (f : Refusal) → f ≡ firstRefusal (faults (rowAt id) (g .header) (own (rowAt id) g)) → decodedAt l at ≡ Refused (shift at f)
     group-fault t f ef =
-        decoded-fault l at id (a .id-is) small k₄ fits-four (ap found (sym first-is) ∙ t)
-        ∙ ap (λ (x : Refusal). refusedAt (x .number) (at + x .word)) (sym (ef ∙ first-is))
+        decoded-fault l at id (a .id-is) small k₄ fits-four (ap found (sym first-is) ∙ t) ∙ ap (λ (x : Refusal). Refused (shift at x)) (sym (ef ∙ first-is))
 
     -- the two tests of the code
     tests : {b v : Bool} → b ≡ outside g (rowMasks row) → v ≡ found (firstRefusal (valueFaults id (g .header) (more g)))
@@ -256,11 +257,11 @@ module _ (l : List ℕ) (at id row : ℕ) (a : KnownAt l at id row) (small : id 
     tests eb ev = rw (eb, ev, a .row-is) (faulty-is id g k₄)
 
     pub undefined-fault : {b : Bool} → b ≡ outside g (rowMasks row) → b ≡ true
-        → (f : Refusal) → f ≡ firstRefusal (faults (rowAt id) (g .header) (own (rowAt id) g)) → decodedAt l at ≡ refusedAt (f .number) (at + f .word)
+        → (f : Refusal) → f ≡ firstRefusal (faults (rowAt id) (g .header) (own (rowAt id) g)) → decodedAt l at ≡ Refused (shift at f)
     undefined-fault eb t = group-fault (sym (tests eb refl) ∙ rw t)
 
     pub value-fault : {v : Bool} → v ≡ found (firstRefusal (valueFaults id (g .header) (more g))) → v ≡ true
-        → (f : Refusal) → f ≡ firstRefusal (faults (rowAt id) (g .header) (own (rowAt id) g)) → decodedAt l at ≡ refusedAt (f .number) (at + f .word)
+        → (f : Refusal) → f ≡ firstRefusal (faults (rowAt id) (g .header) (own (rowAt id) g)) → decodedAt l at ≡ Refused (shift at f)
     value-fault ev t = group-fault (sym (tests refl ev) ∙ rw t (or-true (outside g (rowMasks row))))
 
     pub group-clear : {b v : Bool} → b ≡ outside g (rowMasks row) → b ≡ false → v ≡ found (firstRefusal (valueFaults id (g .header) (more g))) → v ≡ false

@@ -1,3 +1,1 @@
-pub mod Masked
-pub mod FirstFault
 pub mod Decoding

@@ -9,7 +9,7 @@ use Rattle.rules.specs.Word.{idOf, headerOf}
 use Rattle.rules.specs.Table.{isSetting, isBegin, isBase}
 use Rattle.rules.specs.Command.{commandSize}
 use Rattle.rules.specs.Command.{Command as RulesCommand}
-use Rattle.rules.specs.Values.{refusal}
+use Rattle.rules.specs.Values.{refusal, shift}
 use Rattle.rules.specs.Decode.{Decoded, bad, good, decode}
 use Rattle.table.specs.declared.Group.{Group}
 use Rattle.command.specs.declared.Command.{Command as Kept}
@@ -39,7 +39,7 @@ kept c = record { words = suc (length (c .rest)); setting = isSetting (c .row .k
 
 -- a refusal stands at its word of the list
 abbrev pub view : ℕ → Decoded → Decoded′
-view at (bad f) = refusedAt (f .number) (at + f .word)
+view at (bad f) = Refused (shift at f)
 view at (good c) = Command (kept c)
 
 -- the same by the number of its row, of one word and of four

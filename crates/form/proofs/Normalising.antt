@@ -13,7 +13,7 @@ use Rattle.rules.specs.Values.{refusal}
 use Rattle.rules.specs.Command.{Command, wordsAll}
 use Rattle.rules.specs.Walk.{accepted, parse}
 use Rattle.rules.specs.Form.{form}
-use Rattle.rules.specs.Answer.{refuse, normalising, commandsOf, normalForm}
+use Rattle.rules.specs.Answer.{acceptedAnswer, refuse, normalising, commandsOf, normalForm}
 use Rattle.rules.proofs.Form.{form-fits}
 use Rattle.list.specs.declared.Walked.the-variants as walked
 use Rattle.list.specs.View.{walkedOf}
@@ -42,7 +42,7 @@ module _ (l image buffer : List ℕ) where
 
     pub normalise-done : ltb (length buffer) (length (normalForm image l)) ≡ false
         → record {
-          answer = record { verdict = 0; position = length l; commands = c; records = k; words = length (normalForm image l) };
+          answer = acceptedAnswer (length l) c k (length (normalForm image l));
           image = image;
           buffer = sets buffer 0 (normalForm image l);
         } ≡ normalising l image buffer

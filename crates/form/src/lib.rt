@@ -6,6 +6,7 @@
 // written: a form is measured by writing it to an empty part of the buffer.
 use list::Walked;
 use rules::Answer;
+use rules::NO_BIT;
 use rules::Refusal;
 use table::Settings;
 ghost use mathlib.Core.Path.{_≡_};
@@ -331,6 +332,7 @@ pub fn normalise(list: &[u32], image: &[u32], out: &mut [u32]) -> Answer
                 return list::refuse(Refusal {
                     number: 11,
                     word: list.len(),
+                    bit: NO_BIT,
                 });
             }
             let words = form(list, image, out);
@@ -340,6 +342,7 @@ pub fn normalise(list: &[u32], image: &[u32], out: &mut [u32]) -> Answer
                 commands,
                 records,
                 words,
+                bit: NO_BIT,
             }
         }
     }

@@ -5,9 +5,10 @@ use lib.Seq.{sets}
 use Rattle.rules.specs.declared.Answer.{Answer}
 use Rattle.rules.specs.Answer.{Outcome}
 
--- "The answer has verdict, position, commands, records, and words written to the lent buffer."
+-- "The answer has verdict, position, commands, records, and words written to the lent buffer." "With 6, the answer now
+-- also gives the number of the lowest undefined bit": the sixth.
 abbrev pub answerWords : Answer → List ℕ
-answerWords a = a .verdict ∷ a .position ∷ a .commands ∷ a .records ∷ a .words ∷ []
+answerWords a = a .verdict ∷ a .position ∷ a .commands ∷ a .records ∷ a .words ∷ a .bit ∷ []
 
 -- what a call returns, and the lent words after it
 pub record CallResult : Type 0 where
@@ -16,7 +17,7 @@ pub record CallResult : Type 0 where
   pub buffer : List ℕ
   pub answer : List ℕ
 
--- the verdict is returned, and the answer's words get the five numbers, as many as there are words
+-- the verdict is returned, and the answer's words get the six numbers, as many as there are words
 abbrev pub callResult : Outcome → List ℕ → CallResult
 callResult o answer =
     record { verdict = o .answer .verdict; image = o .image; buffer = o .buffer; answer = sets answer 0 (answerWords (o .answer)) }

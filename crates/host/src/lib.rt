@@ -7,7 +7,7 @@ ghost use Rattle.rules.specs.Answer.{reading, normalising};
 ghost use Rattle.rules.specs.Pci.{toPci, fromPci};
 ghost use Rattle.host.specs.Call.{Small, answerWords, callResult};
 
-// The five numbers of an answer, as many as there is room for.
+// The six numbers of an answer, as many as there is room for.
 fn write_answer(a: Answer, answer: &mut [u32])
     requires { ⌜ Small a ⌝ }
     ensures { λ _. ⌜ now (answer .exit) ≡ sets (now (answer .entry)) 0 (answerWords a) ⌝ }
@@ -17,6 +17,7 @@ fn write_answer(a: Answer, answer: &mut [u32])
     put(answer, 2, a.commands as u32);
     put(answer, 3, a.records as u32);
     put(answer, 4, a.words as u32);
+    put(answer, 5, a.bit);
 }
 
 // The reader.

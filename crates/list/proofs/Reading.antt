@@ -12,7 +12,7 @@ use Rattle.rules.specs.Values.{refusal}
 use Rattle.rules.specs.Walk.{Parsed, refused, accepted, parse}
 use Rattle.rules.specs.Image.{final}
 use Rattle.rules.specs.Records.{records, recordWords}
-use Rattle.rules.specs.Answer.{writeParsed, refuse, room, readParsed, reading, commandsOf}
+use Rattle.rules.specs.Answer.{acceptedAnswer, writeParsed, refuse, room, readParsed, reading, commandsOf}
 use Rattle.rules.proofs.Verdict.{length-recordWords}
 use Rattle.list.specs.declared.Walked.the-variants as walked
 use Rattle.list.specs.View.{walkedOf}
@@ -49,7 +49,7 @@ module _ (made : List Command → List ℕ) (ws image buffer : List ℕ) where
     -- 0, with the words written
     pub answer-done : (m : ℕ) → length (made (commandsOf x)) ≡ m → m ≤ length buffer
         → record {
-          answer = record { verdict = 0; position = length ws; commands = c; records = k; words = m };
+          answer = acceptedAnswer (length ws) c k m;
           image = image;
           buffer = sets buffer 0 (made (commandsOf x));
         } ≡ writeParsed made ws image buffer x
@@ -84,7 +84,7 @@ module _ (l image buffer : List ℕ) where
 
     pub read-done : k ≤ length buffer / 4
         → record {
-          answer = record { verdict = 0; position = length l; commands = c; records = k; words = k * 4 };
+          answer = acceptedAnswer (length l) c k (k * 4);
           image = final image (commandsOf (parse image l));
           buffer = sets buffer 0 (recordWords (records 0 (commandsOf (parse image l))));
         } ≡ reading l image buffer

@@ -6,7 +6,7 @@ use lib.ListN.{length, getD, drop}
 use Rattle.rules.specs.Table.{isSetting}
 use Rattle.rules.specs.Walk.{State, stop, took, step, Parsed, refused, accepted}
 use Rattle.rules.specs.Walk.{Step as RulesStep}
-use Rattle.rules.specs.Values.{refusal}
+use Rattle.rules.specs.Values.{refusal, shift}
 use Rattle.rules.specs.Records.{records}
 use Rattle.command.specs.declared.Command.{Command}
 use Rattle.command.specs.declared.Decoded.{Decoded}
@@ -53,7 +53,7 @@ abbrev pub stateOf : List ℕ → Cursor → State
 stateOf image c = record { order = record { flip = c .flip }; image = image }
 
 abbrev pub view : Cursor → RulesStep → Step
-view c (stop f) = Refused (refusal (f .number) (c .at + f .word))
+view c (stop f) = Refused (shift (c .at) f)
 view c (took d t) =
     On (record {
       at = c .at + suc (length (d .rest));

@@ -2,6 +2,7 @@
 use command::Command;
 use command::Decoded;
 use rules::Answer;
+use rules::NO_BIT;
 use rules::Refusal;
 use table::Settings;
 ghost use mathlib.Core.Path.{_≡_};
@@ -84,6 +85,7 @@ impl Cursor {
                     return Step::Refused(Refusal {
                         number: 10,
                         word: self.at,
+                        bit: NO_BIT,
                     });
                 }
                 Step::On(self.after(k))
@@ -256,6 +258,7 @@ pub fn refuse(f: Refusal) -> Answer
         commands: 0,
         records: 0,
         words: 0,
+        bit: f.bit,
     }
 }
 
@@ -267,10 +270,15 @@ pub fn check(list: &[u32], image: &[u32]) -> Walked
         return Walked::Refused(Refusal {
             number: 1,
             word: 4096,
+            bit: NO_BIT,
         });
     }
     if image.len() != 256 {
-        return Walked::Refused(Refusal { number: 2, word: 0 });
+        return Walked::Refused(Refusal {
+            number: 2,
+            word: 0,
+            bit: NO_BIT,
+        });
     }
     let rows = table::row_table();
     walk(&rows, list)
@@ -288,6 +296,7 @@ pub fn read(list: &[u32], image: &mut [u32], records: &mut [u32]) -> Answer
                 return refuse(Refusal {
                     number: 11,
                     word: list.len(),
+                    bit: NO_BIT,
                 });
             }
             apply_list(list, image, records);
@@ -297,6 +306,7 @@ pub fn read(list: &[u32], image: &mut [u32], records: &mut [u32]) -> Answer
                 commands,
                 records: count,
                 words: count * 4,
+                bit: NO_BIT,
             }
         }
     }

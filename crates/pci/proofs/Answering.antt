@@ -8,7 +8,7 @@ use lib.Seq.{sets}
 use Rattle.rules.specs.declared.Refusal.{Refusal}
 use Rattle.rules.specs.Values.{refusal}
 use Rattle.rules.specs.Walk.{parse}
-use Rattle.rules.specs.Answer.{refuse, commandsOf}
+use Rattle.rules.specs.Answer.{acceptedAnswer, refuse, commandsOf}
 use Rattle.rules.specs.Pci.{pairsAll, values, parsePairs, toPci, fromPci}
 use Rattle.rules.proofs.Parse.{parse-accepted}
 use Rattle.rules.proofs.Pci.{pairs-length}
@@ -34,7 +34,7 @@ module _ (l image buffer : List ℕ) where
 
     pub to-done : length l ≤ length buffer / 2
         → record {
-          answer = record { verdict = 0; position = length l; commands = c; records = k; words = 2 * length l };
+          answer = acceptedAnswer (length l) c k (2 * length l);
           image = image;
           buffer = sets buffer 0 (pairsAll (commandsOf (parse image l)));
         } ≡ toPci l image buffer
@@ -53,7 +53,7 @@ module _ (ps image buffer : List ℕ) where
 
     pub from-done : n ≤ length buffer
         → record {
-          answer = record { verdict = 0; position = n; commands = c; records = k; words = n };
+          answer = acceptedAnswer n c k n;
           image = image;
           buffer = sets buffer 0 (values ps);
         } ≡ fromPci ps image buffer

@@ -6,6 +6,7 @@ use list::Cursor;
 use list::Step;
 use list::Walked;
 use rules::Answer;
+use rules::NO_BIT;
 use rules::Refusal;
 ghost use mathlib.Core.Path.{_≡_};
 ghost use mathlib.Core.Bool.{true, false};
@@ -119,6 +120,7 @@ pub fn to_pci(list: &[u32], image: &[u32], pairs: &mut [u32]) -> Answer
                 return list::refuse(Refusal {
                     number: 11,
                     word: list.len(),
+                    bit: NO_BIT,
                 });
             }
             write_list(list, image, pairs);
@@ -128,6 +130,7 @@ pub fn to_pci(list: &[u32], image: &[u32], pairs: &mut [u32]) -> Answer
                 commands,
                 records,
                 words: 2 * list.len(),
+                bit: NO_BIT,
             }
         }
     }
@@ -141,9 +144,10 @@ fn decode_single(pairs: &[u32], at: usize, id: u8, row: u8) -> Decoded
     ensures { λ r. ⌜ Met (now (pairs .entry)) at r ⌝ }
 {
     let m = table::masks_of(row);
-    let undefined = command::undefined(words::header_of(places::value_at(pairs, at)), m.header);
+    let header = words::header_of(places::value_at(pairs, at));
+    let undefined = faults::undefined(header, m.header);
     if (places::address_at(pairs, at) != places::address(id, 0)) | undefined {
-        return command::refused(6, at);
+        return command::refused_fault(at, faults::first_fault(row, id, header, 0, 0, 0));
     }
     command::single_command(row)
 }
@@ -157,13 +161,17 @@ fn decode_group(pairs: &[u32], at: usize, id: u8, row: u8) -> Decoded
         return command::refused(5, at);
     }
     let g = places::group_at(pairs, at);
-    if !places::group_placed(pairs, at, id) | command::undefined_bits(row, g) {
-        let f = command::fault(row, id, g);
-        return command::refused(f.number, at + f.word);
+    if !places::group_placed(pairs, at, id) | faults::undefined_bits(row, g) {
+        return command::refused_fault(
+            at,
+            faults::first_fault(row, id, g.header, g.second, g.third, g.fourth),
+        );
     }
-    if command::bad_values(id, g.header, g.second, g.third, g.fourth) {
-        let f = command::fault(row, id, g);
-        return command::refused(f.number, at + f.word);
+    if faults::bad_values(id, g.header, g.second, g.third, g.fourth) {
+        return command::refused_fault(
+            at,
+            faults::first_fault(row, id, g.header, g.second, g.third, g.fourth),
+        );
     }
     let more = command::payload(id, g);
     if 0 < more {
@@ -216,10 +224,15 @@ fn check(pairs: &[u32], image: &[u32]) -> Walked
         return Walked::Refused(Refusal {
             number: 1,
             word: 4096,
+            bit: NO_BIT,
         });
     }
     if image.len() != 256 {
-        return Walked::Refused(Refusal { number: 2, word: 0 });
+        return Walked::Refused(Refusal {
+            number: 2,
+            word: 0,
+            bit: NO_BIT,
+        });
     }
     let rows = table::row_table();
     walk(&rows, pairs)
@@ -250,6 +263,7 @@ pub fn from_pci(pairs: &[u32], image: &[u32], list: &mut [u32]) -> Answer
                 return list::refuse(Refusal {
                     number: 11,
                     word: words,
+                    bit: NO_BIT,
                 });
             }
             write_values(pairs, list);
@@ -259,6 +273,7 @@ pub fn from_pci(pairs: &[u32], image: &[u32], list: &mut [u32]) -> Answer
                 commands,
                 records,
                 words,
+                bit: NO_BIT,
             }
         }
     }

@@ -1,6 +1,7 @@
 // The pairs of a buffer: an address and a value each, and the place where each is expected (document 02, Ticket 1).
 //
 // A pair is two words, address first. Pair `at` carries word `at` of a list.
+use rules::NO_BIT;
 use rules::Refusal;
 use table::Group;
 ghost use mathlib.Core.Path.{_≡_};
@@ -128,11 +129,13 @@ pub fn refuse_pairs(pairs: &[u32], start: usize, f: Refusal) -> Refusal
                 return Refusal {
                     number: 13,
                     word: at + right,
+                    bit: NO_BIT,
                 };
             }
             return Refusal {
                 number: 14,
                 word: at,
+                bit: NO_BIT,
             };
         }
         at += words;

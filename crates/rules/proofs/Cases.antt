@@ -1,7 +1,7 @@
 -- Each case holds: document 01's P1 to P12 and N1 to N4, and the guide's PCI writes.
 use mathlib.Core.Path.{_≡_, refl}
 use mathlib.Core.Bool.{true}
-use Rattle.rules.specs.Word.{undefined}
+use Rattle.rules.specs.Word.{lowest, undefined}
 use Rattle.rules.specs.Table.{table, rowOf, settings, isBase}
 use Rattle.rules.specs.Command.{payload, commandSize}
 use Rattle.rules.specs.Values.{faults}
@@ -13,5 +13,5 @@ use Rattle.rules.specs.Pci.{address, misplaced, parsePairs, toPci, fromP
 use Rattle.rules.specs.Cases.{every, cases}
 
 pub cases-hold : every cases ≡ true
-unfolding every cases reading normalising toPci fromPci address misplaced parsePairs commandSize parse walk step decode decodeRow faults undefined payload outOfOrder orderAfter rowOf table settings isBase formFrom
+unfolding every cases reading normalising toPci fromPci address misplaced parsePairs commandSize parse walk step decode decodeRow faults lowest undefined payload outOfOrder orderAfter rowOf table settings isBase formFrom
 cases-hold = refl

@@ -4,17 +4,17 @@
 use Prim.Native.Nat.{ℕ, _*_, _≤_}
 use native.Mathlib.Omega.{arith}
 use mathlib.Core.Path.{_≡_, ap, sym, _∙_, subst}
+use mathlib.Core.Bool.{true}
 use mathlib.Core.Logic.{_↔_}
 use mathlib.Core.List.{List, _++_}
 use lib.ListN.{length, getD, length-append}
 use Rattle.rules.specs.Command.{Command, wordsAll}
-use Rattle.rules.specs.Values.{refusal}
 use Rattle.rules.specs.Walk.{parse}
 use Rattle.rules.specs.Valid.{Accepted}
 use Rattle.rules.specs.Image.{final, Unset}
 use Rattle.rules.specs.Records.{records, recordWords, withoutPositions}
 use Rattle.rules.specs.Form.{form}
-use Rattle.rules.specs.Answer.{Outcome, refuse, accept, room, reading, normalising, commandsOf, does, normalForm, written}
+use Rattle.rules.specs.Answer.{Outcome, refusalOf, tellsBit, refuse, accept, room, reading, normalising, commandsOf, does, normalForm, written}
 use Rattle.rules.specs.Pci.{pairsAll, values, wholePairs, parsePairs, toPci, fromPci}
 use Rattle.rules.proofs.Parse.{parse-accepted, accepted-parse}
 use Rattle.rules.proofs.Records.{records-few}
@@ -25,21 +25,35 @@ use Rattle.rules.proofs.Outcomes as laws
 -- ---- Demand 1: "a refusal changes neither the image nor any buffer", and its counts are 0
 
 pub reader-refuses : (ws image buffer : List ℕ) → (reading ws image buffer .answer .verdict ≡ 0 → ⊥)
-    → reading ws image buffer ≡ refuse (refusal (reading ws image buffer .answer .verdict) (reading ws image buffer .answer .position)) image buffer
+    → reading ws image buffer ≡ refuse (refusalOf (reading ws image buffer .answer)) image buffer
 reader-refuses = laws.reading-refuses
 
 pub normaliser-refuses : (ws image buffer : List ℕ) → (normalising ws image buffer .answer .verdict ≡ 0 → ⊥)
     → normalising ws image buffer
-    ≡ refuse (refusal (normalising ws image buffer .answer .verdict) (normalising ws image buffer .answer .position)) image buffer
+    ≡ refuse (refusalOf (normalising ws image buffer .answer)) image buffer
 normaliser-refuses = laws.normalising-refuses
 
 pub to-pci-refuses : (ws image buffer : List ℕ) → (toPci ws image buffer .answer .verdict ≡ 0 → ⊥)
-    → toPci ws image buffer ≡ refuse (refusal (toPci ws image buffer .answer .verdict) (toPci ws image buffer .answer .position)) image buffer
+    → toPci ws image buffer ≡ refuse (refusalOf (toPci ws image buffer .answer)) image buffer
 to-pci-refuses = laws.to-pci-refuses
 
 pub from-pci-refuses : (ps image buffer : List ℕ) → (fromPci ps image buffer .answer .verdict ≡ 0 → ⊥)
-    → fromPci ps image buffer ≡ refuse (refusal (fromPci ps image buffer .answer .verdict) (fromPci ps image buffer .answer .position)) image buffer
+    → fromPci ps image buffer ≡ refuse (refusalOf (fromPci ps image buffer .answer)) image buffer
 from-pci-refuses = laws.from-pci-refuses
+
+-- ---- Ticket 2: with 6 a bit of the word, with every other verdict 32
+
+pub reader-tells-bit : (ws image buffer : List ℕ) → tellsBit (reading ws image buffer .answer) ≡ true
+reader-tells-bit = laws.reading-tells
+
+pub normaliser-tells-bit : (ws image buffer : List ℕ) → tellsBit (normalising ws image buffer .answer) ≡ true
+normaliser-tells-bit = laws.normalising-tells
+
+pub to-pci-tells-bit : (ws image buffer : List ℕ) → tellsBit (toPci ws image buffer .answer) ≡ true
+to-pci-tells-bit = laws.to-pci-tells
+
+pub from-pci-tells-bit : (ps image buffer : List ℕ) → tellsBit (fromPci ps image buffer .answer) ≡ true
+from-pci-tells-bit = laws.from-pci-tells
 
 -- ---- Demand 2
 

@@ -10,15 +10,16 @@ use lib.ListN.{length, getD}
 use lib.Seq.{getD-set-other}
 use Rattle.rules.specs.Table.{Kind, setting, plain, keeps, begins}
 use Rattle.rules.specs.Command.{Command, wordsAll}
-use Rattle.rules.specs.Values.{refusal}
 use Rattle.rules.specs.Walk.{Parsed, refused, accepted, parse}
 use Rattle.rules.specs.Image.{leave, apply, final, UnsetBy, Unset}
 use Rattle.rules.specs.Records.{records, recordWords, withoutPositions}
 use Rattle.rules.specs.Effect.{Effect, effect, works}
 use Rattle.rules.specs.Form.{form}
-use Rattle.rules.specs.Answer.{Outcome, refuse, accept, fitting, room, readParsed, writeParsed, reading, normalising, commandsOf, does, normalForm, written}
+use Rattle.rules.specs.Answer.{Outcome, refusalOf, tellsBit, refuse, accept, fitting, room, readParsed, writeParsed, reading, normalising, commandsOf, does, normalForm, written}
 use Rattle.rules.specs.Pci.{pairsAll, values, parsePairs, toPci, fromPci}
 use Rattle.rules.specs.Valid.{AllValid}
+use Rattle.rules.proofs.Numbers.{RefusesList, parse-refuses}
+use Rattle.rules.proofs.Pci.{pairs-refuses}
 use Rattle.rules.proofs.Parse.{parse-accepted}
 use Rattle.rules.proofs.Differing.{sets-outside}
 use Rattle.rules.proofs.Form.{form-accepted, form-fits, form-same, same-form, same-effect, normal-again}
@@ -30,43 +31,76 @@ use Rattle.rules.proofs.Verdict.{written-accept, Reads, reads, reading-
 fitting-refuses : (small : Bool) (ws image buffer : List ℕ) (o : Outcome) → o .answer .verdict ≡ 0
     → (fitting small ws image buffer o .answer .verdict ≡ 0 → ⊥)
     → fitting small ws image buffer o
-    ≡ refuse (refusal (fitting small ws image buffer o .answer .verdict) (fitting small ws image buffer o .answer .position)) image buffer
+    ≡ refuse (refusalOf (fitting small ws image buffer o .answer)) image buffer
 fitting-refuses true ws image buffer o z n = refl
 fitting-refuses false ws image buffer o z n = absurd (n z)
 
 read-refuses : (ws image buffer : List ℕ) (x : Parsed) → (readParsed ws image buffer x .answer .verdict ≡ 0 → ⊥)
-    → readParsed ws image buffer x ≡ refuse (refusal (readParsed ws image buffer x .answer .verdict) (readParsed ws image buffer x .answer .position)) image buffer
+    → readParsed ws image buffer x ≡ refuse (refusalOf (readParsed ws image buffer x .answer)) image buffer
 read-refuses ws image buffer (refused f) n = refl
 read-refuses ws image buffer (accepted cs) n =
     fitting-refuses (ltb (room buffer) (length (records 0 cs))) ws image buffer (accept ws cs (recordWords (records 0 cs)) (final image cs) buffer) refl n
 
 write-refuses : (made : List Command → List ℕ) (ws image buffer : List ℕ) (x : Parsed) → (writeParsed made ws image buffer x .answer .verdict ≡ 0 → ⊥)
     → writeParsed made ws image buffer x
-    ≡ refuse (refusal (writeParsed made ws image buffer x .answer .verdict) (writeParsed made ws image buffer x .answer .position)) image buffer
+    ≡ refuse (refusalOf (writeParsed made ws image buffer x .answer)) image buffer
 write-refuses made ws image buffer (refused f) n = refl
 write-refuses made ws image buffer (accepted cs) n =
     fitting-refuses (ltb (length buffer) (length (made cs))) ws image buffer (accept ws cs (made cs) image buffer) refl n
 
 pub reading-refuses : (ws image buffer : List ℕ) → (reading ws image buffer .answer .verdict ≡ 0 → ⊥)
-    → reading ws image buffer ≡ refuse (refusal (reading ws image buffer .answer .verdict) (reading ws image buffer .answer .position)) image buffer
+    → reading ws image buffer ≡ refuse (refusalOf (reading ws image buffer .answer)) image buffer
 unfolding reading
 reading-refuses ws image buffer n = read-refuses ws image buffer (parse image ws) n
 
 pub normalising-refuses : (ws image buffer : List ℕ) → (normalising ws image buffer .answer .verdict ≡ 0 → ⊥)
     → normalising ws image buffer
-    ≡ refuse (refusal (normalising ws image buffer .answer .verdict) (normalising ws image buffer .answer .position)) image buffer
+    ≡ refuse (refusalOf (normalising ws image buffer .answer)) image buffer
 unfolding normalising
 normalising-refuses ws image buffer n = write-refuses (λ cs. wordsAll (form image cs)) ws image buffer (parse image ws) n
 
 pub to-pci-refuses : (ws image buffer : List ℕ) → (toPci ws image buffer .answer .verdict ≡ 0 → ⊥)
-    → toPci ws image buffer ≡ refuse (refusal (toPci ws image buffer .answer .verdict) (toPci ws image buffer .answer .position)) image buffer
+    → toPci ws image buffer ≡ refuse (refusalOf (toPci ws image buffer .answer)) image buffer
 unfolding toPci
 to-pci-refuses ws image buffer n = write-refuses pairsAll ws image buffer (parse image ws) n
 
 pub from-pci-refuses : (ps image buffer : List ℕ) → (fromPci ps image buffer .answer .verdict ≡ 0 → ⊥)
-    → fromPci ps image buffer ≡ refuse (refusal (fromPci ps image buffer .answer .verdict) (fromPci ps image buffer .answer .position)) image buffer
+    → fromPci ps image buffer ≡ refuse (refusalOf (fromPci ps image buffer .answer)) image buffer
 unfolding fromPci
 from-pci-refuses ps image buffer n = write-refuses (λ cs. values ps) (values ps) image buffer (parsePairs image ps) n
+
+-- ---- the bit
+
+abbrev Tells : Outcome → Type 0
+Tells o = tellsBit (o .answer) ≡ true
+
+fitting-tells : (small : Bool) (ws image buffer : List ℕ) (o : Outcome) → Tells o → Tells (fitting small ws image buffer o)
+fitting-tells true ws image buffer o t = refl
+fitting-tells false ws image buffer o t = t
+
+read-tells : (ws image buffer : List ℕ) (x : Parsed) → RefusesList 4098 x → Tells (readParsed ws image buffer x)
+read-tells ws image buffer (refused f) r = r .bit
+read-tells ws image buffer (accepted cs) r = fitting-tells (ltb (room buffer) (length (records 0 cs))) ws image buffer _ refl
+
+write-tells : (made : List Command → List ℕ) (ws image buffer : List ℕ) (x : Parsed) → RefusesList 4098 x → Tells (writeParsed made ws image buffer x)
+write-tells made ws image buffer (refused f) r = r .bit
+write-tells made ws image buffer (accepted cs) r = fitting-tells (ltb (length buffer) (length (made cs))) ws image buffer _ refl
+
+pub reading-tells : (ws image buffer : List ℕ) → Tells (reading ws image buffer)
+unfolding reading
+reading-tells ws image buffer = read-tells ws image buffer (parse image ws) (parse-refuses image ws)
+
+pub normalising-tells : (ws image buffer : List ℕ) → Tells (normalising ws image buffer)
+unfolding normalising
+normalising-tells ws image buffer = write-tells (λ cs. wordsAll (form image cs)) ws image buffer (parse image ws) (parse-refuses image ws)
+
+pub to-pci-tells : (ws image buffer : List ℕ) → Tells (toPci ws image buffer)
+unfolding toPci
+to-pci-tells ws image buffer = write-tells pairsAll ws image buffer (parse image ws) (parse-refuses image ws)
+
+pub from-pci-tells : (ps image buffer : List ℕ) → Tells (fromPci ps image buffer)
+unfolding fromPci
+from-pci-tells ps image buffer = write-tells (λ cs. values ps) (values ps) image buffer (parsePairs image ps) (pairs-refuses image ps)
 
 -- ---- words that no command sets
 

@@ -185,18 +185,18 @@ carries-pairs image ps cs k =
     let v = parse-accepted image (values ps) cs (k .parsed) .parses .valid in
     placed-parse image ps (sym (whole-placed outside 0 0 ps) ∙ ap (misplaced outside 0 0) (k .pairs-are) ∙ placed-all 0 cs v) ∙ k .parsed
 
--- no refusal of pairs has number 0, and none stands far behind them
+-- no refusal of pairs has number 0 or a bit, and none stands far behind them
 abbrev RefusesPair : ℕ → Option Refusal → Type 0
 RefusesPair m none = Unit {0}
 RefusesPair m (some f) = Proper m f
 
 ended-refuses : (m : ℕ) (o : Inside) (left : ℕ) → o .first ≤ m → RefusesPair m (ended o left)
 ended-refuses m o zero h = tt
-ended-refuses m o (suc left) h = record { number = refl; near = h }
+ended-refuses m o (suc left) h = record { number = refl; near = h; bit = refl }
 
 expecting-refuses : (m : ℕ) (b : Bool) (p : ℕ) (later : Option Refusal) → p ≤ m → RefusesPair m later → RefusesPair m (cond b later (some (refusal 13 p)))
 expecting-refuses m true p later h r = r
-expecting-refuses m false p later h r = record { number = refl; near = h }
+expecting-refuses m false p later h r = record { number = refl; near = h; bit = refl }
 
 misplaced-refuses : (m : ℕ) (o : Inside) (left p : ℕ) (ps : List ℕ) → o .first ≤ m → p + length (values ps) ≤ m → RefusesPair m (misplaced o left p ps)
 unfolding misplaced

@@ -2,7 +2,7 @@
 use Prim.Native.Nat.{ℕ, _/_}
 use mathlib.Core.Bool.{Bool, cond}
 use mathlib.Core.List.{List, [], _++_}
-use lib.Dec.{ltb}
+use lib.Dec.{eqb, ltb}
 use lib.ListN.{length, take, drop}
 use Rattle.rules.specs.declared.Answer.{Answer}
 use Rattle.rules.specs.Command.{Command, wordsAll}
@@ -22,17 +22,29 @@ pub record Outcome : Type 0 where
 
 -- "On refusal the last three are 0, and image and buffers are as before."
 abbrev pub refusedAnswer : Refusal → Answer
-refusedAnswer f = record { verdict = f .number; position = f .word; commands = 0; records = 0; words = 0 }
+refusedAnswer f = record { verdict = f .number; position = f .word; commands = 0; records = 0; words = 0; bit = f .bit }
+
+-- the refusal that an answer tells
+abbrev pub refusalOf : Answer → Refusal
+refusalOf a = record { number = a .verdict; word = a .position; bit = a .bit }
 
 abbrev pub refuse : Refusal → List ℕ → List ℕ → Outcome
 refuse f image buffer = record { answer = refusedAnswer f; image = image; buffer = buffer }
+
+-- "With 6, the answer now also gives the number of the lowest undefined bit set in that word; every other verdict gives 32
+-- there."
+abbrev pub tellsBit : Answer → Bool
+tellsBit a = cond (eqb (a .verdict) 6) (ltb (a .bit) 32) (eqb (a .bit) 32)
+
+-- 0 at a position with the counts of commands, records and words, and bit 32
+abbrev pub acceptedAnswer : ℕ → ℕ → ℕ → ℕ → Answer
+acceptedAnswer p c r w = record { verdict = 0; position = p; commands = c; records = r; words = w; bit = 32 }
 
 -- 0 at "the list's length", with the words written. "On acceptance the words after those written are as before."
 abbrev pub accept : List ℕ → List Command → List ℕ → List ℕ → List ℕ → Outcome
 accept ws cs written image buffer =
     record {
-      answer =
-          record { verdict = 0; position = length ws; commands = length cs; records = length (records 0 cs); words = length written };
+      answer = acceptedAnswer (length ws) (length cs) (length (records 0 cs)) (length written);
       image = image;
       buffer = written ++ drop (length written) buffer;
     }

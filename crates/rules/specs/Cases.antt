@@ -1,23 +1,24 @@
--- Cases P1 to P12 and N1 to N4 (document 01, "Cases on each side") and the guide's own PCI writes, in one table.
+-- Cases P1 to P12 and N1 to N4 (document 01, "Cases on each side", with the numbers of document 02, Ticket 2) and the
+-- guide's own PCI writes, in one table.
 use Prim.Native.Nat.{ℕ}
 use mathlib.Core.Bool.{Bool, true, _&&_}
 use mathlib.Core.List.{List, [], _∷_}
 use lib.Dec.{eqb}
 use lib.ListN.{length, getD, replicate, set}
+use Rattle.rules.specs.declared.Refusal.{Refusal}
 use Rattle.rules.specs.Form.{equal}
 use Rattle.rules.specs.Answer.{Outcome, reading, normalising, written}
 use Rattle.rules.specs.Pci.{toPci, fromPci}
 
--- what a case says of its list: refused with a number at a word, accepted with so many commands, accepted with a word
--- of the new image, accepted with a normal form, accepted with its PCI writes; or of its pairs: refused with a number at a
--- pair
+-- what a case says of its list: its refusal, accepted with so many commands, accepted with a word of the new image,
+-- accepted with a normal form, accepted with its PCI writes; or of its pairs: their refusal
 pub data Want : Type 0 where
-  refusedAt : ℕ → ℕ → Want
+  refusedAs : Refusal → Want
   commands : ℕ → Want
   imageWord : ℕ → ℕ → Want
   normalFormIs : List ℕ → Want
   writesAre : List ℕ → Want
-  pairsRefusedAt : ℕ → ℕ → Want
+  pairsRefusedAs : Refusal → Want
 
 pub record Case : Type 0 where
   pub list : List ℕ
@@ -28,28 +29,33 @@ pub record Case : Type 0 where
 abbrev buffer : List ℕ
 buffer = replicate 16 0
 
-answered : ℕ → ℕ → Outcome → Bool
-answered n p o = eqb (o .answer .verdict) n && eqb (o .answer .position) p
+-- verdict, position and bit
+abbrev told : ℕ → ℕ → ℕ → Refusal
+told n p b = record { number = n; word = p; bit = b }
+
+answered : Refusal → Outcome → Bool
+answered f o = (eqb (o .answer .verdict) (f .number) && eqb (o .answer .position) (f .word)) && eqb (o .answer .bit) (f .bit)
 
 -- the reader and the normaliser answer alike
-alike : ℕ → ℕ → List ℕ → List ℕ → Bool
-alike n p ws image = answered n p (reading ws image buffer) && answered n p (normalising ws image buffer)
+alike : Refusal → List ℕ → List ℕ → Bool
+alike f ws image = answered f (reading ws image buffer) && answered f (normalising ws image buffer)
 
 accepts : List ℕ → List ℕ → Bool
-accepts ws image = alike 0 (length ws) ws image && eqb (reading ws image buffer .answer .commands) (normalising ws image buffer .answer .commands)
+accepts ws image =
+    alike (told 0 (length ws) 32) ws image && eqb (reading ws image buffer .answer .commands) (normalising ws image buffer .answer .commands)
 
 -- a form is accepted too, and leaves the same image
 holds : List ℕ → List ℕ → Want → Bool
-holds ws image (refusedAt n p) = alike n p ws image
+holds ws image (refusedAs f) = alike f ws image
 holds ws image (commands k) = accepts ws image && eqb (normalising ws image buffer .answer .commands) k
 holds ws image (imageWord i w) = accepts ws image && eqb (getD (reading ws image buffer .image) i 0) w
 holds ws image (normalFormIs us) =
     (accepts ws image && equal (written (normalising ws image buffer)) us)
     && (accepts us image && equal (reading us image buffer .image) (reading ws image buffer .image))
 holds ws image (writesAre ps) =
-    (answered 0 (length ws) (toPci ws image buffer) && equal (written (toPci ws image buffer)) ps)
-    && (answered 0 (length ws) (fromPci ps image buffer) && equal (written (fromPci ps image buffer)) ws)
-holds ps image (pairsRefusedAt n p) = answered n p (fromPci ps image buffer)
+    (answered (told 0 (length ws) 32) (toPci ws image buffer) && equal (written (toPci ws image buffer)) ps)
+    && (answered (told 0 (length ws) 32) (fromPci ps image buffer) && equal (written (fromPci ps image buffer)) ws)
+holds ps image (pairsRefusedAs f) = answered f (fromPci ps image buffer)
 
 unfoldable pub every : List Case → Bool
 unfolding holds accepts alike answered
@@ -62,6 +68,13 @@ zeros = replicate 256 0
 abbrev fromZeros : List ℕ → Want → Case
 fromZeros ws w = record { list = ws; start = zeros; want = w }
 
+-- refused with a number at a word, or pairs at a pair, with no bit
+abbrev refusedAt : ℕ → ℕ → Want
+refusedAt n p = refusedAs (told n p 32)
+
+abbrev pairsRefusedAt : ℕ → ℕ → Want
+pairsRefusedAt n p = pairsRefusedAs (told n p 32)
+
 abbrev n1 : List ℕ
 n1 = 0x02000010 ∷ 0x02000020 ∷ 0x00000001 ∷ 0x02000020 ∷ []
 
@@ -72,13 +85,19 @@ cases =
     ∷ fromZeros (0x03000000 ∷ []) (refusedAt 4 0)
     ∷ fromZeros (0x06000000 ∷ []) (refusedAt 3 0)
     ∷ fromZeros (0x84000000 ∷ 0 ∷ 0 ∷ []) (refusedAt 5 0)
-    ∷ fromZeros (0x01000002 ∷ []) (refusedAt 6 0)
+    ∷ fromZeros (0x01000002 ∷ []) (refusedAs (told 6 0 1))
     ∷ fromZeros (0x84000000 ∷ 0x30000000 ∷ 0 ∷ 0 ∷ []) (refusedAt 7 1)
-    ∷ fromZeros (0x84000000 ∷ 0x10000000 ∷ 0xC0000000 ∷ 0 ∷ []) (refusedAt 8 0)
-    ∷ fromZeros (0x84000000 ∷ 0 ∷ 0x40004000 ∷ 0 ∷ []) (refusedAt 8 0)
-    ∷ fromZeros (0x88004000 ∷ 0 ∷ 0 ∷ 0 ∷ []) (refusedAt 8 0)
+    ∷ fromZeros (0x84000000 ∷ 0x10000000 ∷ 0xC0000000 ∷ 0 ∷ []) (refusedAt 15 0)
+    ∷ fromZeros (0x84000000 ∷ 0 ∷ 0x40004000 ∷ 0 ∷ []) (refusedAt 16 0)
+    ∷ fromZeros (0x88004000 ∷ 0 ∷ 0 ∷ 0 ∷ []) (refusedAt 17 0)
     ∷ fromZeros (0x40500001 ∷ replicate 6 0) (refusedAt 9 0)
     ∷ fromZeros (0x21000000 ∷ 0x21000000 ∷ []) (refusedAt 10 1)
+    -- the clashes of a load, the second "since 8 comes before 9"; of two clashes of a window clip the first
+    ∷ fromZeros (0x40900000 ∷ 0 ∷ 0 ∷ 0 ∷ []) (refusedAt 18 0)
+    ∷ fromZeros (0x40501C02 ∷ 0 ∷ 0 ∷ 0 ∷ []) (refusedAt 19 0)
+    ∷ fromZeros (0x84000000 ∷ 0x10000000 ∷ 0xC000C000 ∷ 0 ∷ []) (refusedAt 15 0)
+    -- of several undefined bits the lowest, at the lowest word
+    ∷ fromZeros (0x02000010 ∷ 0x88000000 ∷ 0 ∷ 0x80C00000 ∷ 0xFF000000 ∷ []) (refusedAs (told 6 3 22))
     ∷ fromZeros n1 (normalFormIs (0x02000020 ∷ 0x00000001 ∷ []))
     ∷ fromZeros (0x02000010 ∷ 0x02000000 ∷ []) (normalFormIs [])
     ∷ fromZeros (0x31800001 ∷ 0x02000005 ∷ []) (normalFormIs (0x02000005 ∷ 0x31800001 ∷ []))
@@ -97,4 +116,7 @@ cases =
     -- an unknown id at its own address, and a wrong address behind it
     ∷ fromZeros (0x280C ∷ 0x03000000 ∷ 0x285C ∷ 0x17000000 ∷ []) (pairsRefusedAt 4 0)
     ∷ fromZeros (0x285C ∷ 0x17000000 ∷ 0x2801 ∷ 0 ∷ []) (pairsRefusedAt 13 1)
+    -- the bit and a clash of the list that pairs carry
+    ∷ fromZeros (0x2800 ∷ 0 ∷ 0x2804 ∷ 0x01000003 ∷ []) (pairsRefusedAs (told 6 1 0))
+    ∷ fromZeros (0x2A20 ∷ 0x88004000 ∷ 0x2A24 ∷ 0 ∷ 0x2A28 ∷ 0 ∷ 0x2A2C ∷ 0 ∷ []) (pairsRefusedAt 17 0)
     ∷ []

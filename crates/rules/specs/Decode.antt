@@ -1,4 +1,5 @@
--- One command by itself: refusals 3 to 9 (document 01, "Verdicts and what stays").
+-- One command by itself: refusals 3 to 9 (document 01, "Verdicts and what stays"), 15 to 19 "in 8's old place" (document 02,
+-- Ticket 2).
 use Prim.Native.Nat.{ℕ}
 use mathlib.Core.Bool.{cond, _||_}
 use mathlib.Core.List.{List, [], _∷_}
@@ -20,7 +21,7 @@ abbrev pub firstFault : List Fault → Decoded → Decoded
 firstFault [] d = d
 firstFault (f ∷ fs) d = cond (f .found) (bad (f .why)) (firstFault fs d)
 
--- 5 "fewer than four words left for a group", 6, 7, 8, then 9 "payload cut short":
+-- 5 "fewer than four words left for a group", 6, 7, 15 to 19, then 9 "payload cut short":
 -- the command of a row with a header, before the words that follow it in the list
 unfoldable pub decodeRow : Row → ℕ → List ℕ → Decoded
 decodeRow r h ws =

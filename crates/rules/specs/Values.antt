@@ -1,17 +1,27 @@
--- The rules on a command's own words: undefined bits, illegal values and clashes (document 01, "The commands").
+-- The rules on a command's own words: undefined bits, illegal values and clashes (document 01, "The commands"; document 02,
+-- Ticket 2).
 use Prim.Native.Nat.{ℕ, suc, _+_}
 use mathlib.Core.Bool.{Bool, cond, not, _&&_, _||_}
 use mathlib.Core.List.{List, [], _∷_, _++_}
 use lib.Dec.{eqb, leb, ltb}
 use lib.ListN.{getD}
 use Rattle.rules.specs.declared.Refusal.{Refusal}
-use Rattle.rules.specs.Word.{bits, undefined}
+use Rattle.rules.specs.Word.{bits, lowestUndefined, undefined}
 use Rattle.rules.specs.Table.{Row}
 use Rattle.rules.specs.Command.{moreMasks}
 
--- a refusal's number and word
+-- a refusal's number and word. Of the bit, "every other verdict gives 32 there".
 abbrev pub refusal : ℕ → ℕ → Refusal
-refusal n w = record { number = n; word = w }
+refusal n w = record { number = n; word = w; bit = 32 }
+
+-- 6: "undefined bit set", in word i of a command. "With 6, the answer now also gives the number of the lowest undefined
+-- bit set in that word".
+abbrev pub undefinedBit : ℕ → ℕ → ℕ → Refusal
+undefinedBit i w mask = record { number = 6; word = i; bit = lowestUndefined w mask }
+
+-- the refusal of a command's word where the command stands at position p
+abbrev pub shift : ℕ → Refusal → Refusal
+shift p f = record { number = f .number; word = p + f .word; bit = f .bit }
 
 -- a test, and the refusal where it is true, its word counted from the command's first
 pub record Fault : Type 0 where
@@ -21,11 +31,11 @@ pub record Fault : Type 0 where
 abbrev pub fault : Bool → ℕ → ℕ → Fault
 fault b n w = record { found = b; why = refusal n w }
 
--- 6: "undefined bit set", at the "lowest such word", from word i on
+-- 6 at the "lowest such word", from word i on
 abbrev pub undefinedFaults : ℕ → List ℕ → List ℕ → List Fault
 undefinedFaults i [] ws = []
 undefinedFaults i (m ∷ ms) [] = []
-undefinedFaults i (m ∷ ms) (w ∷ ws) = fault (undefined w m) 6 i ∷ undefinedFaults (suc i) ms ws
+undefinedFaults i (m ∷ ms) (w ∷ ws) = record { found = undefined w m; why = undefinedBit i w m } ∷ undefinedFaults (suc i) ms ws
 
 -- LOAD_GP (001, 4.1): "bit 23 converts IEEE floats, bits 22..20 are the load code, 18..10 the start offset, 8..0 the
 -- length". The header, then the second to fourth words.
@@ -40,10 +50,10 @@ loadFaults h a b c =
     -- "the third and fourth are zero for codes 0 and 5"
     ∷ fault (bare && not (eqb b 0)) 7 2
     ∷ fault (bare && not (eqb c 0)) 7 3
-    -- "bit 23 may be set only with code 5"
-    ∷ fault (not (eqb code 5) && eqb (bits h 23 1) 1) 8 0
-    -- "For code 5, offset plus length is at most 8"
-    ∷ fault (eqb code 5 && ltb 8 (bits h 10 9 + bits h 0 9)) 8 0
+    -- 18 "bit 23 of a load": "bit 23 may be set only with code 5"
+    ∷ fault (not (eqb code 5) && eqb (bits h 23 1) 1) 18 0
+    -- 19 "plane range": "For code 5, offset plus length is at most 8"
+    ∷ fault (eqb code 5 && ltb 8 (bits h 10 9 + bits h 0 9)) 19 0
     ∷ []
 
 -- Primitive: "only the null primitive, .., with header and three words all zero. Any other value is illegal."
@@ -68,16 +78,18 @@ clipFaults a b =
     let least = bits b 12 4 in
     -- "3 is illegal"
     fault (eqb bank 3) 7 1
-    ∷ fault (ltb (pageLimit bank) most) 8 0
-    -- "The stored minimum is zero or less than the stored maximum."
-    ∷ fault (not (eqb least 0) && leb most least) 8 0
+    -- 15 "maximum over the bank's limit"
+    ∷ fault (ltb (pageLimit bank) most) 15 0
+    -- 16 "minimum against maximum": "The stored minimum is zero or less than the stored maximum." "Where 15 and 16 both
+    -- hold, 15 is given."
+    ∷ fault (not (eqb least 0) && leb most least) 16 0
     ∷ []
 
--- Raster mode (001, 6.3): "if header bit 22 (page-based rendering) is 0, bit 14 (always full page) is 0"
+-- Raster mode (001, 6.3): 17 "raster bits": "if header bit 22 (page-based rendering) is 0, bit 14 (always full page) is 0"
 abbrev pub rasterFaults : ℕ → List Fault
-rasterFaults h = fault (eqb (bits h 22 1) 0 && eqb (bits h 14 1) 1) 8 0 ∷ []
+rasterFaults h = fault (eqb (bits h 22 1) 0 && eqb (bits h 14 1) 1) 17 0 ∷ []
 
--- 7 at the lowest such word, then 8, of a command with the given words after its first
+-- 7 at the lowest such word, then "in 8's old place" 15 to 19, of a command with the given words after its first
 unfoldable pub valueFaults : ℕ → ℕ → List ℕ → List Fault
 valueFaults id h own =
     let a = getD own 0 0 in
@@ -88,7 +100,7 @@ valueFaults id h own =
     (cond (eqb id 0x84) (clipFaults a b)
     (cond (eqb id 0x88) (rasterFaults h) [])))
 
--- 6, 7 and 8 in this order: a number goes over all the words before the next
+-- 6, 7 and 15 to 19 in this order: a number goes over all the words before the next
 unfoldable pub faults : Row → ℕ → List ℕ → List Fault
 unfolding valueFaults
 faults r h own = undefinedFaults 0 (r .mask ∷ moreMasks r h) (h ∷ own) ++ valueFaults (r .id) h own

@@ -8,7 +8,7 @@ use lib.ListN.{length}
 use Rattle.rules.specs.Table.{isBegin, isBase}
 use Rattle.rules.specs.Command.{Command}
 use Rattle.rules.specs.declared.Refusal.{Refusal}
-use Rattle.rules.specs.Values.{refusal}
+use Rattle.rules.specs.Values.{refusal, shift}
 use Rattle.rules.specs.Decode.{Decoded, bad, good, decode}
 use Rattle.rules.specs.Image.{apply}
 
@@ -63,7 +63,7 @@ andThen c (accepted cs) = accepted (c ∷ cs)
 
 -- from a step at position p on; `go` reads on behind the words of the command
 abbrev pub onward : ℕ → (State → ℕ → Parsed) → Step → Parsed
-onward p go (stop f) = refused (refusal (f .number) (p + f .word))
+onward p go (stop f) = refused (shift p f)
 onward p go (took c t) = andThen c (go t (length (c .rest)))
 
 -- the list from position p on, of which the first `skip` words belong to the command before

@@ -1,15 +1,22 @@
 // The rules of XP10 command lists are the definitions in specs/, and what follows of them is proved in proofs/.
 // No code stands here: only the values that the definitions give and the functions above return.
 
-// "A bad list is refused with a number and a word position."
+// "A bad list is refused with a number and a word position." "With 6, the answer now also gives the number of the lowest
+// undefined bit set in that word; every other verdict gives 32 there."
 pub struct Refusal {
+    // side by side, here and below, so that a refusal and an answer are no larger for the bit
     pub number: u32,
+    pub bit: u32,
     pub word: usize,
 }
 
-// "The answer has verdict, position, commands, records, and words written to the lent buffer."
+// The bit of every verdict but 6.
+pub const NO_BIT: u32 = 32;
+
+// "The answer has verdict, position, commands, records, and words written to the lent buffer", and the bit.
 pub struct Answer {
     pub verdict: u32,
+    pub bit: u32,
     pub position: usize,
     pub commands: usize,
     pub records: usize,

@@ -5,33 +5,23 @@ use rules::Answer;
 ghost use Prim.Native.Nat.{_+_, _<_, _≤_};
 ghost use lib.ListN.{length};
 
-// What one function gave, with the digest so far.
-struct Part {
-    digest: u32,
-    verdict: u32,
-}
+// The tally has the verdicts of each function in turn, the cases, and the differences. A function is named by its place
+// there.
+const VERDICTS: usize = 20;
 
-// What a case gave: the digest, and all verdicts.
-struct Ran {
-    digest: u32,
-    reader: u32,
-    normaliser: u32,
-    to_pci: u32,
-    from_pci: u32,
-}
+const READER: usize = 0;
 
-// The tally has the verdicts of each function in turn, the cases, and the differences.
-const VERDICTS: usize = 15;
+const NORMALISER: usize = VERDICTS;
 
-const NORMALISER: usize = 15;
+const TO_PCI: usize = 2 * VERDICTS;
 
-const TO_PCI: usize = 30;
+const FROM_PCI: usize = 3 * VERDICTS;
 
-const FROM_PCI: usize = 45;
+const CASES: usize = 4 * VERDICTS;
 
-const CASES: usize = 60;
+const DIFFERENCES: usize = CASES + 1;
 
-const DIFFERENCES: usize = 61;
+const TALLY: usize = CASES + 2;
 
 fn least(a: usize, b: usize) -> usize
     ensures { λ r. ⌜ (r ≤ a) × (r ≤ b) ⌝ }
@@ -61,10 +51,11 @@ fn mix_words(start: u32, words: &[u32]) -> u32 {
 
 fn mix_answer(digest: u32, a: Answer) -> u32 {
     let front = mix_number(mix(digest, a.verdict), a.position);
-    mix_number(
+    let back = mix_number(
         mix_number(mix_number(front, a.commands), a.records),
         a.words,
-    )
+    );
+    mix(back, a.bit)
 }
 
 // ---- a case
@@ -96,153 +87,101 @@ fn fill_buffer(buffer: &mut [u32]) {
     }
 }
 
-// The reader on a case.
-fn read_case(list: &[u32], seed: u32, image: &mut [u32], records: &mut [u32]) -> Part {
-    fill_image(image, seed);
-    fill_buffer(records);
-    let a = list::read(list, image, records);
-    let digest = mix_words(mix_answer(0x811C9DC5, a), image);
-    Part {
-        digest: mix_words(digest, records),
-        verdict: a.verdict,
-    }
-}
-
-// The normaliser on it, from the image as it was before.
-fn form_case(list: &[u32], seed: u32, image: &mut [u32], out: &mut [u32], digest: u32) -> Part {
-    fill_image(image, seed);
-    fill_buffer(out);
-    let a = form::normalise(list, image, out);
-    Part {
-        digest: mix_words(mix_answer(digest, a), out),
-        verdict: a.verdict,
-    }
-}
-
-// The writer of pairs on it, from the same image, which the normaliser only reads.
-fn to_pci_case(list: &[u32], image: &[u32], pairs: &mut [u32], digest: u32) -> Part {
-    fill_buffer(pairs);
-    let a = pci::to_pci(list, image, pairs);
-    Part {
-        digest: mix_words(mix_answer(digest, a), pairs),
-        verdict: a.verdict,
-    }
-}
-
-// The reader of pairs on the same words, as pairs.
-fn from_pci_case(pairs: &[u32], image: &[u32], list: &mut [u32], digest: u32) -> Part {
-    fill_buffer(list);
-    let a = pci::from_pci(pairs, image, list);
-    Part {
-        digest: mix_words(mix_answer(digest, a), list),
-        verdict: a.verdict,
-    }
-}
-
-fn run_case(
-    list: &[u32],
-    seed: u32,
-    image: &mut [u32],
-    records: &mut [u32],
-    out: &mut [u32],
-    pairs: &mut [u32],
-) -> Ran {
-    let read = read_case(list, seed, image, records);
-    let made = form_case(list, seed, image, out, read.digest);
-    let written = to_pci_case(list, image, pairs, made.digest);
-    let recovered = from_pci_case(list, image, pairs, written.digest);
-    Ran {
-        digest: recovered.digest,
-        reader: read.verdict,
-        normaliser: made.verdict,
-        to_pci: written.verdict,
-        from_pci: recovered.verdict,
-    }
-}
-
-fn add(tally: &mut [u32; 62], i: usize) {
-    if i < 62 {
+fn add(tally: &mut [u32; TALLY], i: usize) {
+    if i < TALLY {
         tally[i] = std::num::wrapping_add_u32(tally[i], 1);
     }
 }
 
-fn note(tally: &mut [u32; 62], r: Ran, digest: u32) {
-    add(tally, least(words::wide(r.reader), 14));
-    add(tally, NORMALISER + least(words::wide(r.normaliser), 14));
-    add(tally, TO_PCI + least(words::wide(r.to_pci), 14));
-    add(tally, FROM_PCI + least(words::wide(r.from_pci), 14));
-    add(tally, CASES);
-    if r.digest != digest {
-        add(tally, DIFFERENCES);
+// A function on a list, which the last of them takes as pairs.
+fn call(function: usize, list: &[u32], image: &mut [u32], buffer: &mut [u32]) -> Answer {
+    match function {
+        READER => list::read(list, image, buffer),
+        NORMALISER => form::normalise(list, image, buffer),
+        TO_PCI => pci::to_pci(list, image, buffer),
+        _ => pci::from_pci(list, image, buffer),
     }
 }
 
-// The case with these seven words in front of its list. A length that is too large is cut, here and below, so that the
-// digest is wrong.
-fn lend(
-    front: &[u32],
+// The digest of what it gives; of the reader, of the image too.
+fn digest_of(
+    function: usize,
     list: &[u32],
     image: &mut [u32],
-    records: &mut [u32],
-    out: &mut [u32],
-    pairs: &mut [u32],
-) -> Ran
-    requires { ⌜ 7 ≤ length (now front) ⌝ }
+    buffer: &mut [u32],
+    start: u32,
+    tally: &mut [u32; TALLY],
+) -> u32
+    requires { ⌜ function ≤ 60 ⌝ }
 {
+    let a = call(function, list, image, buffer);
+    add(
+        tally,
+        function + least(words::wide(a.verdict), VERDICTS - 1),
+    );
+    let digest = mix_answer(start, a);
+    if function == READER {
+        return mix_words(mix_words(digest, image), buffer);
+    }
+    mix_words(digest, buffer)
+}
+
+// The same from the image and with the room that the case's front says. A length that is too large is cut, here and
+// below, so that the digest is wrong.
+fn run_function(
+    function: usize,
+    front: &[u32],
+    room: usize,
+    list: &[u32],
+    image: &mut [u32],
+    buffer: &mut [u32],
+    start: u32,
+    tally: &mut [u32; TALLY],
+) -> u32
+    requires { ⌜ (function ≤ 60) × (room < 7) × (7 ≤ length (now front)) ⌝ }
+{
+    fill_image(image, front[1]);
+    fill_buffer(buffer);
     let i = least(words::wide(front[2]), image.len());
-    let k = least(words::wide(front[3]), records.len());
-    let n = least(words::wide(front[4]), out.len());
-    let p = least(words::wide(front[5]), pairs.len());
-    run_case(
+    let n = least(words::wide(front[room]), buffer.len());
+    digest_of(
+        function,
         list,
-        front[1],
         &mut image[..i],
-        &mut records[..k],
-        &mut out[..n],
-        &mut pairs[..p],
+        &mut buffer[..n],
+        start,
+        tally,
     )
 }
 
-// The case at a position, and the position after it.
-fn one(
-    words: &[u32],
-    at: usize,
+// The digest of all functions on the case with these seven words in front of its list. Both directions of PCI writes have
+// the same room.
+fn run_case(
+    front: &[u32],
+    list: &[u32],
     image: &mut [u32],
-    records: &mut [u32],
-    out: &mut [u32],
-    pairs: &mut [u32],
-    tally: &mut [u32; 62],
-) -> usize
-    requires { ⌜ at + 7 ≤ length (now words) ⌝ }
-    ensures { λ r. ⌜ (at < r) × (r ≤ length (now (words .entry))) ⌝ }
+    buffer: &mut [u32],
+    tally: &mut [u32; TALLY],
+) -> u32
+    requires { ⌜ 7 ≤ length (now front) ⌝ }
 {
-    let start = at + 7;
-    let end = start + least(words::wide(words[at]), words.len() - start);
-    let digest = words[at + 6];
-    let r = lend(
-        &words[at..start],
-        &words[start..end],
-        image,
-        records,
-        out,
-        pairs,
-    );
-    note(tally, r, digest);
-    end
-}
-
-fn all(
-    words: &[u32],
-    image: &mut [u32],
-    records: &mut [u32],
-    out: &mut [u32],
-    pairs: &mut [u32],
-    tally: &mut [u32; 62],
-) {
-    let mut at = 0;
-    while 7 <= words.len() - at {
-        at = one(words, at, image, records, out, pairs, tally);
+    let mut digest = 0x811C9DC5;
+    let mut k = 0;
+    while k < 4 {
+        let room = least(3 + k, 5);
+        digest = run_function(
+            k * VERDICTS,
+            front,
+            room,
+            list,
+            image,
+            buffer,
+            digest,
+            tally,
+        );
+        k += 1;
     }
+    digest
 }
 
 // ---- the program
@@ -262,7 +201,7 @@ fn print_column(n: u32) {
     print_number(n);
 }
 
-fn print(tally: &[u32; 62]) {
+fn print(tally: &[u32; TALLY]) {
     print_line(b"vectors ", tally[CASES]);
     print_line(b"differences ", tally[DIFFERENCES]);
     io::write_all(1, b"verdict reader normaliser to_pci from_pci\n");
@@ -277,43 +216,57 @@ fn print(tally: &[u32; 62]) {
     }
 }
 
-fn run(words: &[u32]) {
-    let mut image = [0u32; 300];
-    let mut records = [0u32; 5000];
-    let mut out = [0u32; 5000];
-    let mut pairs = [0u32; 8200];
-    let mut tally = [0u32; 62];
-    all(
-        words,
-        &mut image,
-        &mut records,
-        &mut out,
-        &mut pairs,
-        &mut tally,
-    );
-    print(&tally);
-}
-
-// Up to half of the words of a file.
-fn load_half(words: &mut [u32]) -> usize
-    ensures { λ r. ⌜ r ≤ 131072 ⌝ }
-{
-    let mut bytes = [0u8; 524288];
-    let n = io::read_full(0, &mut bytes);
+// The next words of standard input, by way of a buffer for their bytes.
+fn load_words(bytes: &mut [u8], words: &mut [u32]) -> usize {
+    let n = io::read_full(0, bytes);
     report::load(&bytes[..n], words);
     n / 4
 }
 
-fn load(words: &mut [u32]) -> usize
-    requires { ⌜ 131072 ≤ length (now words) ⌝ }
-    ensures { λ r. ⌜ r ≤ 262144 ⌝ }
-{
-    let half = load_half(words);
-    half + load_half(&mut words[half..])
+// The same, at most 8,200.
+fn next_words(words: &mut [u32]) -> usize {
+    let mut bytes = [0u8; 32800];
+    let n = 4 * least(words.len(), 8200);
+    load_words(&mut bytes[..n], words)
+}
+
+// The next case; false where there is none.
+fn next_case(
+    list: &mut [u32],
+    image: &mut [u32],
+    buffer: &mut [u32],
+    tally: &mut [u32; TALLY],
+) -> bool {
+    let mut front = [0u32; 7];
+    if next_words(&mut front) < 7 {
+        return false;
+    }
+    let n = least(words::wide(front[0]), list.len());
+    next_words(&mut list[..n]);
+    let digest = run_case(&front, &list[..n], image, buffer, tally);
+    add(tally, CASES);
+    if digest != front[6] {
+        add(tally, DIFFERENCES);
+    }
+    true
+}
+
+// A file may have 65,536 cases.
+fn all(list: &mut [u32], image: &mut [u32], buffer: &mut [u32], tally: &mut [u32; TALLY]) {
+    let mut i: usize = 0;
+    while i < 65536 {
+        if !next_case(list, image, buffer, tally) {
+            return;
+        }
+        i += 1;
+    }
 }
 
 fn main() {
-    let mut words = [0u32; 262144];
-    let count = load(&mut words);
-    run(&words[..count]);
+    let mut list = [0u32; 8200];
+    let mut image = [0u32; 300];
+    let mut buffer = [0u32; 8200];
+    let mut tally = [0u32; TALLY];
+    all(&mut list, &mut image, &mut buffer, &mut tally);
+    print(&tally);
 }

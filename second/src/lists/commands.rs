@@ -252,6 +252,9 @@ fn with_undefined_bit(rng: &mut Prng) -> Vec<u32> {
         if row.masks[k].bits & bit == 0 {
             let mut words = valid(rng, row.id);
             words[k] |= bit;
+            if rng.once_in(2) {
+                words[k] |= any_word(rng) & u32::MAX >> (32 - bits_of_word(k));
+            }
             return words;
         }
     }
@@ -290,7 +293,8 @@ fn clashing_clip(rng: &mut Prng) -> Vec<u32> {
     let bank = rng.below(3);
     let limit = BANK_LIMITS[bank];
     let (maximum, minimum) = if limit < 15 && rng.once_in(2) {
-        (limit + 1 + rng.below((15 - limit) as usize) as u32, 0)
+        let maximum = limit + 1 + rng.below((15 - limit) as usize) as u32;
+        (maximum, rng.pick(&[0, 1, maximum, 15]))
     } else {
         let maximum = rng.below(limit as usize + 1) as u32;
         let lowest = maximum.max(1);

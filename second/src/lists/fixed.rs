@@ -12,6 +12,15 @@ use crate::rules::{self, Kind, Row, IMAGE_WORDS, MAX_LIST_WORDS};
 const FLUSH: u32 = 0x00000001;
 const TIMER: u32 = 0x02000000;
 
+/// A command for each of verdicts 15 to 19.
+const CLASHES: [[u32; 4]; 5] = [
+    [0x84000000, 0x10000000, 0xC0000000, 0],
+    [0x84000000, 0, 0x40004000, 0],
+    [0x88004000, 0, 0, 0],
+    [0x40800000, 0, 0, 0],
+    [0x40502400, 0, 0, 0],
+];
+
 struct Set {
     class: &'static str,
     lists: Vec<Vec<u32>>,
@@ -38,6 +47,11 @@ fn sets() -> Vec<Set> {
         set("every undefined bit", every_bit(false), Every),
         set("every defined bit", every_bit(true), Every),
         set("every bit, not first", every_bit_not_first(), OneIn(40)),
+        set("an undefined bit and the next", undefined_and_next(), Every),
+        set("an undefined bit and all above", undefined_and_all_above(), OneIn(8)),
+        set("every two undefined bits", every_two_undefined(), OneIn(80)),
+        set("undefined bits among defined ones", undefined_among_defined(), Every),
+        set("undefined bits in two words", undefined_in_two_words(), Every),
         set("every bit of a load", every_load_bit(), Every),
         set("all defined bits", all_defined_bits(), Every),
         set("load codes", load_codes(), Every),
@@ -54,6 +68,7 @@ fn sets() -> Vec<Set> {
         set("every id after a surface base", every_id_after_base(), OneIn(4)),
         set("group cut", group_cuts(), Every),
         set("two faults", two_faults(), Every),
+        set("two refused commands", two_refused(), Every),
         set("one setting around work", setting_around_work(), OneIn(8)),
         set("settings in any order", setting_orders(), EveryShort),
         set("sizes", sizes(), Every),
@@ -181,6 +196,99 @@ fn every_bit_not_first() -> Vec<Vec<u32>> {
     let within = |list: Vec<u32>| [&[TIMER], &list[..], &[0; 40]].concat();
     let all = [every_bit(true), every_bit(false)].concat();
     all.into_iter().map(within).collect()
+}
+
+/// A word of a command with undefined bits.
+struct Undefined {
+    row: &'static Row,
+    word: usize,
+    /// The bits, lowest first.
+    bits: Vec<u32>,
+}
+
+impl Undefined {
+    /// The command with these bits of the word.
+    fn list(&self, bits: u32) -> Vec<u32> {
+        let mut list = zeros(self.row);
+        list[self.word] |= bits;
+        list
+    }
+
+    fn highest(&self) -> u32 {
+        *self.bits.last().expect("an undefined bit")
+    }
+}
+
+fn undefined_words() -> Vec<Undefined> {
+    let mut all = Vec::new();
+    for row in table() {
+        for (word, mask) in row.masks.iter().enumerate() {
+            let bits = (0..bits_of_word(word)).map(|number| 1 << number);
+            let bits: Vec<u32> = bits.filter(|bit| mask.bits & bit == 0).collect();
+            if !bits.is_empty() {
+                all.push(Undefined { row, word, bits });
+            }
+        }
+    }
+    all
+}
+
+/// Each with the next one of its word, and the lowest with the highest.
+fn undefined_and_next() -> Vec<Vec<u32>> {
+    let mut lists = Vec::new();
+    for undefined in undefined_words() {
+        lists.extend(undefined.bits.windows(2).map(|two| undefined.list(two[0] | two[1])));
+        lists.push(undefined.list(undefined.bits[0] | undefined.highest()));
+    }
+    lists
+}
+
+pub fn undefined_and_all_above() -> Vec<Vec<u32>> {
+    let of_word = |undefined: Undefined| -> Vec<Vec<u32>> {
+        let from = |k: usize| undefined.list(undefined.bits[k..].iter().sum());
+        (0..undefined.bits.len() - 1).map(from).collect()
+    };
+    undefined_words().into_iter().flat_map(of_word).collect()
+}
+
+fn every_two_undefined() -> Vec<Vec<u32>> {
+    let mut lists = Vec::new();
+    for undefined in undefined_words() {
+        for (k, low) in undefined.bits.iter().enumerate() {
+            let above = undefined.bits[k + 1..].iter();
+            lists.extend(above.map(|high| undefined.list(low | high)));
+        }
+    }
+    lists
+}
+
+/// The lowest undefined bit of a word, the highest, and all of them, with all that are defined.
+pub fn undefined_among_defined() -> Vec<Vec<u32>> {
+    let mut lists = Vec::new();
+    for undefined in undefined_words() {
+        let defined = undefined.row.masks[undefined.word].bits;
+        let all: u32 = undefined.bits.iter().sum();
+        for bits in [undefined.bits[0], undefined.highest(), all] {
+            lists.push(undefined.list(defined | bits));
+        }
+    }
+    lists
+}
+
+/// The lower word is told, and the bit is its own, be it the lower one or not.
+pub fn undefined_in_two_words() -> Vec<Vec<u32>> {
+    let all = undefined_words();
+    let mut lists = Vec::new();
+    for (k, low) in all.iter().enumerate() {
+        for high in all[k + 1..].iter().filter(|high| high.row.id == low.row.id) {
+            for (a, b) in [(low.bits[0], high.highest()), (low.highest(), high.bits[0])] {
+                let mut list = low.list(a);
+                list[high.word] |= b;
+                lists.push(list);
+            }
+        }
+    }
+    lists
 }
 
 pub fn every_load_bit() -> Vec<Vec<u32>> {
@@ -371,10 +479,10 @@ pub fn after_base() -> Vec<Vec<u32>> {
             lists.push(vec![base, begin, 0, 0, 1]);
             lists.push(vec![FLUSH, begin, 0, 0, 0, base]);
         }
-        // Verdicts 6 to 9 go ahead of 10; the last has 10 alone.
+        // Verdicts 6, 7, 15 to 19 and 9 go ahead of 10; the last has 10 alone.
         lists.push(vec![base, 0x01000002]);
         lists.push(vec![base, 0x48000001, 0, 0, 0]);
-        lists.push(vec![base, 0x88004000, 0, 0, 0]);
+        lists.extend(CLASHES.map(|clash| [&[base], &clash[..]].concat()));
         lists.push(vec![base, 0x40000001, 0, 0, 0, 0, 0, 0]);
         lists.push(vec![base, 0x40000001, 0, 0, 0, 0, 0, 0, 0]);
         // A word of a payload or of a group is no surface base.
@@ -408,6 +516,8 @@ fn group_cuts() -> Vec<Vec<u32>> {
             }
         }
     }
+    // 5 goes ahead of a clash.
+    lists.extend(CLASHES.map(|clash| clash[..3].to_vec()));
     lists
 }
 
@@ -428,6 +538,8 @@ pub fn two_faults() -> Vec<Vec<u32>> {
         vec![0x88084000, 0, 0, 0],
         vec![0x88004000, 0, 0, 0x01000000],
         vec![0x84000000, 0x50000000, 0xF0000000, 0],
+        vec![0x84000000, 0x40000000, 0x40004000, 0],
+        vec![0x40800200, 0, 0, 0],
         vec![0x40580009, 0, 0, 0],
         // An illegal value ahead of a clash.
         vec![0x40B00000, 0, 0, 0],
@@ -443,8 +555,11 @@ pub fn two_faults() -> Vec<Vec<u32>> {
         vec![0x40100000, 1, 0, 0],
         vec![0x48000001, 1, 1, 1],
         vec![0x48000000, 0, 1, 1],
-        // Both page thresholds; bit 23 and the payload; the plane range and the payload.
+        // Both page thresholds: the maximum.
+        vec![0x84000000, 0x10000000, 0xC000C000, 0],
         vec![0x84000000, 0x20000000, 0x7000F000, 0],
+        vec![0x84000000, 0x20000000, 0xF000F000, 0],
+        // Bit 23 and the payload; the plane range and the payload.
         vec![0x40800001, 0, 0, 0],
         vec![0x40500009, 0, 0, 0],
         // An illegal value ahead of a payload cut short.
@@ -460,6 +575,24 @@ pub fn two_faults() -> Vec<Vec<u32>> {
         vec![0x21000000, 0x03000000],
         vec![0x21000000, 0x84000000],
     ]
+}
+
+/// Commands that are refused wherever they stand, and two that are where the list ends.
+const REFUSED: [&[u32]; 5] =
+    [&[0x06000000], &[0x03000000], &[0x01000002], &[0x48000001, 0, 0, 0], &[0x21000000, FLUSH]];
+const REFUSED_AT_END: [&[u32]; 2] = [&[0x84000000, 0, 0], &[0x40000001, 0, 0, 0]];
+
+/// Two refused commands behind a setting and work: the first one's refusal, and nothing is done.
+pub fn two_refused() -> Vec<Vec<u32>> {
+    let refused: Vec<&[u32]> =
+        REFUSED.into_iter().chain(CLASHES.iter().map(|clash| &clash[..])).collect();
+    let mut lists = Vec::new();
+    for first in &refused {
+        for second in refused.iter().chain(&REFUSED_AT_END) {
+            lists.push([&[TIMER | 0x10, FLUSH], *first, second].concat());
+        }
+    }
+    lists
 }
 
 fn full_setting(row: &Row) -> Vec<u32> {
@@ -595,6 +728,7 @@ fn image_lengths() -> Vec<Case> {
         vec![0x06000000],
         vec![0x84000000, 0, 0],
         vec![0x21000000, FLUSH],
+        vec![0x01000002],
     ];
     let mut cases = Vec::new();
     for len in [0, 1, 2, 64, 255, 256, 257, 300] {
@@ -605,9 +739,9 @@ fn image_lengths() -> Vec<Case> {
             cases.push(Case { image, ..with_room(room, case) });
         }
     }
-    // Too many words, ahead of the image and of the room.
-    for (len, room) in [(255, 8), (256, 0)] {
-        let list = [&[FLUSH], &timers(MAX_LIST_WORDS)[..]].concat();
+    // Too many words, ahead of the image, an undefined bit and the room.
+    for (len, room, first) in [(255, 8, 0x01000002), (256, 0, FLUSH)] {
+        let list = [&[first], &timers(MAX_LIST_WORDS)[..]].concat();
         let case = plain("image lengths", list, Purpose::Store);
         let image = Image::Seeded { seed: 1, len };
         cases.push(Case { image, ..with_room(room, case) });

@@ -203,7 +203,8 @@ pub fn loads() -> Vec<Vec<u32>> {
 pub fn refused_lists() -> Vec<Vec<u32>> {
     let after_base = |command: Vec<u32>| [&[0x21000000], &command[..]].concat();
     let after_base: Vec<Vec<u32>> = table().iter().map(zeros).map(after_base).collect();
-    let mut all = all_pairs([fixed::two_faults(), fixed::after_base(), after_base].concat());
+    let two = [fixed::two_faults(), fixed::two_refused()].concat();
+    let mut all = all_pairs([two, fixed::after_base(), after_base].concat());
     let refused: [&[u32]; 8] = [
         &[0x06000000],
         &[0x03000000],
@@ -235,11 +236,25 @@ pub fn bits_and_limits() -> Vec<Vec<u32>> {
     let mut primitive_bits = fixed::every_bit(true);
     primitive_bits.retain(|list| list[0] >> 24 == 0x48);
     let bits = [fixed::every_bit(false), fixed::every_load_bit(), primitive_bits];
+    let undefined = [
+        fixed::undefined_and_all_above(),
+        fixed::undefined_among_defined(),
+        fixed::undefined_in_two_words(),
+        undefined_loads(),
+    ];
     let minimum_bits = (0..4).map(|bit| clip(0, 1, 1 << bit)).collect();
     let clips = [fixed::clip_limits(), minimum_bits];
     let values = [fixed::load_codes(), clips.concat(), fixed::raster_bits()];
     let planes = [fixed::plane_ranges(), fixed::planes_with_payload()];
-    all_pairs([bits.concat(), values.concat(), fixed::primitive_words(), planes.concat()].concat())
+    let bits = [bits.concat(), undefined.concat()].concat();
+    all_pairs([bits, values.concat(), fixed::primitive_words(), planes.concat()].concat())
+}
+
+/// An undefined bit above all bits of the length, with its payload, and one above the offset.
+fn undefined_loads() -> Vec<Vec<u32>> {
+    let mut above_length = load(0, 511);
+    above_length[0] |= 1 << 9;
+    vec![above_length, vec![load_word(false, 0, 511, 0) | 1 << 19, 0, 0, 0]]
 }
 
 /// As many pairs as a list may have words.
@@ -256,12 +271,13 @@ fn with_more(mut words: Vec<u32>, more: &[u32]) -> Vec<u32> {
 pub fn sizes() -> Vec<Vec<u32>> {
     let odd_word = with_more(most_pairs(), &[0x2808]);
     let one_more = with_more(most_pairs(), &pairs(&[FLUSH]));
-    vec![vec![], most_pairs(), odd_word, one_more]
+    vec![vec![], odd_word, one_more]
 }
 
 pub fn other_sizes() -> Vec<Vec<u32>> {
     let max = MAX_LIST_WORDS;
     vec![
+        most_pairs(),
         most_pairs()[2..].to_vec(),
         with_more(most_pairs(), &[0x2808, TIMER, 0x2808]),
         with_more(most_pairs()[2..].to_vec(), &[0x2920, 0x48000000]),
@@ -283,6 +299,7 @@ pub fn image_lengths() -> Vec<Case> {
         pairs(&[0x10000000, 0, 0]),
         pairs(&[0x06000000]),
         pairs(&[0x21000000, FLUSH]),
+        pairs(&[0x01000002]),
     ];
     let mut cases = Vec::new();
     for len in [0, 1, 255, 256, 257] {
@@ -295,7 +312,7 @@ pub fn image_lengths() -> Vec<Case> {
         }
     }
     // Too many pairs, ahead of the image, a wrong address, a refused list and the room.
-    let words = with_more(most_pairs(), &[0x2804, 0x06000000]);
+    let words = with_more(most_pairs(), &[0x2808, 0x01000002]);
     let case = plain("pairs: image lengths", words, Purpose::Store);
     cases.push(Case { image: Image::Seeded { seed: 1, len: 255 }, pci_len: 0, ..case });
     cases

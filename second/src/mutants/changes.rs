@@ -1,6 +1,7 @@
-//! All the changes: of each part of the rules, of orders, of answers and lent words.
+//! All the changes: of each part of the rules, of orders, of the clashes' numbers, of answers and lent
+//! words.
 
-use super::{effects, orders};
+use super::{clashes, effects, orders};
 use crate::lists::Case;
 use crate::outcome::{self, Function, Outcome};
 use crate::rules::{self, Rules, Terms};
@@ -102,6 +103,7 @@ pub fn all() -> Vec<Mutant> {
     let rules = Rules::paper().variants().into_iter().chain(everywhere);
     let mut all: Vec<Mutant> = rules.map(|(name, rules)| Mutant::of_rules(name, rules)).collect();
     all.extend(orders::all());
+    all.extend(clashes::all());
     all.extend(effects::all());
     all
 }

@@ -1,18 +1,20 @@
 //! Answers and lent words other than the documents', for each verdict by itself.
 
+mod bits;
 mod by_id;
 mod pci;
 
 use super::changes::Mutant;
 use crate::lists::Case;
 use crate::outcome::{Function, Outcome};
-use crate::rules::{self, put, IMAGE_WORDS};
+use crate::rules::{self, put, IMAGE_WORDS, NO_BIT};
 
-const NUMBERS: [&str; 5] = ["verdict", "position", "commands", "records", "words"];
+const NUMBERS: [&str; 6] = ["verdict", "position", "commands", "records", "words", "bit"];
 const POSITION: usize = 1;
 const COMMANDS: usize = 2;
 const RECORDS: usize = 3;
 const WORDS: usize = 4;
+const BIT: usize = 5;
 
 pub fn all() -> Vec<Mutant> {
     let mut all = Vec::new();
@@ -21,6 +23,7 @@ pub fn all() -> Vec<Mutant> {
             let name = format!("{}, verdict {verdict}", function.name());
             let at = Place { function, verdict, name };
             all.extend(numbers(&at));
+            all.extend(bits::of_verdict(&at));
             all.extend(lent_words(&at));
             match verdict {
                 0 => all.extend(accepted(&at)),
@@ -29,6 +32,7 @@ pub fn all() -> Vec<Mutant> {
             }
         }
     }
+    all.extend(bits::all());
     all.extend(pci::all());
     all.extend(image_words());
     all.extend(by_id::all());
@@ -214,8 +218,7 @@ fn listings() -> Vec<Mutant> {
     };
     let lines_before_refusal = |input: &[u8]| {
         let text = paper.listing(input);
-        let words: Vec<u32> =
-            input.chunks_exact(4).map(|b| u32::from_le_bytes([b[0], b[1], b[2], b[3]])).collect();
+        let words = words_of(input);
         let (commands, refusal) = paper.walk(&words);
         if refusal.is_none() || input.len() % 4 != 0 {
             return text;
@@ -225,8 +228,27 @@ fn listings() -> Vec<Mutant> {
         let lines: Vec<&str> = before.lines().collect();
         format!("{}\n{text}", lines[..lines.len() - 1].join("\n"))
     };
-    vec![
+    let with_bit = |input: &[u8]| {
+        let bit = paper.walk(&words_of(input)).1.map_or(NO_BIT, |refusal| refusal.bit);
+        match paper.listing(input) {
+            text if text.starts_with("refused 6 ") => text.replace('\n', &format!(" bit {bit}\n")),
+            text => text,
+        }
+    };
+    let mut all = vec![
         Mutant::of_listing("listing, verdict 12: at the word cut", at_next),
         Mutant::of_listing("listing: lines before a refusal", lines_before_refusal),
-    ]
+        Mutant::of_listing("listing: the bit of a 6", with_bit),
+    ];
+    for verdict in 15..=19 {
+        let as_8 = move |input: &[u8]| {
+            paper.listing(input).replace(&format!("refused {verdict} "), "refused 8 ")
+        };
+        all.push(Mutant::of_listing(&format!("listing: {verdict} told as 8"), as_8));
+    }
+    all
+}
+
+fn words_of(input: &[u8]) -> Vec<u32> {
+    input.chunks_exact(4).map(|b| u32::from_le_bytes([b[0], b[1], b[2], b[3]])).collect()
 }

@@ -26,7 +26,7 @@ pub fn all() -> Vec<Mutant> {
     all
 }
 
-fn with_each_command(checks: Vec<Check>) -> Rules {
+pub fn with_each_command(checks: Vec<Check>) -> Rules {
     Rules { each_command: checks, ..Rules::paper() }
 }
 
@@ -70,9 +70,8 @@ fn checked_in_passes() -> Vec<Mutant> {
         let first_pass = with_each_command(checks[..k].to_vec());
         let name = format!("order: {} of all commands first", checks[k - 1].verdict);
         Mutant::of_outcome(name, move |function, case, outcome| {
-            let refused = (3..=10).contains(&outcome.answer[0]);
             match first_pass.walk(&function.list_of(case)).1 {
-                Some(refusal) if refused => refused_with(refusal, outcome),
+                Some(refusal) if is_of_command(&outcome) => refused_with(refusal, outcome),
                 _ => outcome,
             }
         })
@@ -103,6 +102,11 @@ fn not_of_every_command() -> Vec<Mutant> {
     all
 }
 
+/// Refused by 3 to 10 or by a clash.
+fn is_of_command(outcome: &Outcome) -> bool {
+    rules::paper().each_command.iter().any(|check| check.verdict == outcome.answer[0])
+}
+
 fn refused_with(refusal: Refusal, outcome: Outcome) -> Outcome {
     Outcome { answer: refusal.answer().numbers(), ..outcome }
 }
@@ -114,7 +118,7 @@ fn end_of(commands: &[Command]) -> usize {
 /// The refusal that the list has behind its refused command.
 fn later_refusal(function: Function, case: &Case, outcome: Outcome) -> Outcome {
     let paper = rules::paper();
-    if !(3..=10).contains(&outcome.answer[0]) {
+    if !is_of_command(&outcome) {
         return outcome;
     }
     let list = function.list_of(case);
@@ -124,8 +128,9 @@ fn later_refusal(function: Function, case: &Case, outcome: Outcome) -> Outcome {
     let rest = &refused[length.min(refused.len())..];
     let before_rest = list.len() - rest.len();
     match paper.walk(rest).1 {
-        Some(Refusal { verdict, position }) => {
-            refused_with(Refusal { verdict, position: before_rest + position }, outcome)
+        Some(refusal) => {
+            let position = before_rest + refusal.position;
+            refused_with(Refusal { position, ..refusal }, outcome)
         }
         None => outcome,
     }
@@ -134,7 +139,7 @@ fn later_refusal(function: Function, case: &Case, outcome: Outcome) -> Outcome {
 /// 11 as soon as the words so far don't fit, ahead of a later command's refusal.
 fn no_room_as_met(function: Function, case: &Case, outcome: Outcome) -> Outcome {
     let paper = rules::paper();
-    if !(3..=10).contains(&outcome.answer[0]) {
+    if !is_of_command(&outcome) {
         return outcome;
     }
     let list = function.list_of(case);
@@ -149,7 +154,7 @@ fn no_room_as_met(function: Function, case: &Case, outcome: Outcome) -> Outcome 
     };
     match fits {
         true => outcome,
-        false => refused_with(Refusal { verdict: 11, position: list.len() }, outcome),
+        false => refused_with(Refusal::new(11, list.len()), outcome),
     }
 }
 
@@ -172,7 +177,7 @@ fn no_room_without(k: usize, function: Function, case: &Case, outcome: Outcome) 
 /// The empty list has too few words for a command.
 fn empty_refused(_: Function, case: &Case, outcome: Outcome) -> Outcome {
     match outcome.answer[0] {
-        0 if case.list.is_empty() => refused_with(Refusal { verdict: 5, position: 0 }, outcome),
+        0 if case.list.is_empty() => refused_with(Refusal::new(5, 0), outcome),
         _ => outcome,
     }
 }

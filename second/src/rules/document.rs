@@ -1,4 +1,4 @@
-//! Document 01, and Ticket 1 of document 02, as a value: each part under its sentence.
+//! Document 01, and Tickets 1 and 2 of document 02, as a value: each part under its sentence.
 
 use super::language::{Field, Mask, Quantity, Set, Test, Value};
 use super::shape::*;
@@ -7,6 +7,8 @@ use crate::vary::parts;
 pub const MAX_LIST_WORDS: usize = 4096;
 pub const IMAGE_WORDS: usize = 256;
 pub const RECORD_WORDS: usize = 4;
+/// "every other verdict gives 32 there"
+pub const NO_BIT: u32 = 32;
 
 const ONE_FULL: &[u32] = &[0xFFFFFF];
 const FOUR_FULL: &[u32] = &[0xFFFFFF, 0xFFFFFFFF, 0xFFFFFFFF, 0xFFFFFFFF];
@@ -81,6 +83,7 @@ impl Rules {
             each_command: each_command(),
             room_for_records: room(),
             room_for_form: room(),
+            told_bit: told_bit(terms),
             // "after a surface base command (21, 23 or 25) the list ends, or the next command is a
             // BEGIN"
             base_may_end_list: true,
@@ -157,15 +160,16 @@ fn payload(terms: &Terms) -> Payload {
     Payload { groups: terms.load_length, more_groups: 0, group_words: 4 }
 }
 
-fn illegal(word: usize, test: Test) -> Fault {
-    Fault { kind: FaultKind::Illegal, word, test }
+fn fault(kind: FaultKind, word: usize, test: Test) -> Fault {
+    Fault { kind, word, test }
 }
 
-fn clash(word: usize, test: Test) -> Fault {
-    Fault { kind: FaultKind::Clash, word, test }
+fn illegal(word: usize, test: Test) -> Fault {
+    fault(FaultKind::Illegal, word, test)
 }
 
 fn load_faults(terms: &Terms) -> Vec<Fault> {
+    use FaultKind::{LoadConverts, PlaneRange};
     let code = terms.load_code;
     let planes = terms.load_offset.plus(terms.load_length);
     // A mask for each legal code, and one for the others.
@@ -185,9 +189,9 @@ fn load_faults(terms: &Terms) -> Vec<Fault> {
         must_be_zero(2, &[0, 5]),
         must_be_zero(3, &[0, 5]),
         // "bit 23 may be set only with code 5"
-        clash(0, terms.load_converts.is_not(0).and(code.one_of(&[5], 8).not())),
+        fault(LoadConverts, 0, terms.load_converts.is_not(0).and(code.one_of(&[5], 8).not())),
         // "For code 5, offset plus length is at most 8"
-        clash(0, code.one_of(&[5], 8).and(planes.over(Value::Number(8)))),
+        fault(PlaneRange, 0, code.one_of(&[5], 8).and(planes.over(Value::Number(8)))),
     ]
 }
 
@@ -202,20 +206,21 @@ fn primitive_faults(terms: &Terms) -> Vec<Fault> {
 }
 
 fn clip_faults(terms: &Terms) -> Vec<Fault> {
+    use FaultKind::{PageMaximum, PageMinimum};
     let (maximum, minimum) = (terms.page_maximum, terms.page_minimum);
     vec![
         // "the bank; 3 is illegal"
         illegal(1, terms.bank.is(3)),
         // "the stored maximum is at most 15, 11 and 6"
-        clash(2, maximum.over(Value::At(terms.bank, vec![15, 11, 6]))),
+        fault(PageMaximum, 2, maximum.over(Value::At(terms.bank, vec![15, 11, 6]))),
         // "The stored minimum is zero or less than the stored maximum."
-        clash(2, minimum.is_not(0).and(minimum.at_least(maximum))),
+        fault(PageMinimum, 2, minimum.is_not(0).and(minimum.at_least(maximum))),
     ]
 }
 
 /// "if header bit 22 (page-based rendering) is 0, bit 14 (always full page) is 0"
 fn raster_faults(terms: &Terms) -> Vec<Fault> {
-    vec![clash(0, terms.page_based.is(0).and(terms.full_page.is_not(0)))]
+    vec![fault(FaultKind::RasterBits, 0, terms.page_based.is(0).and(terms.full_page.is_not(0)))]
 }
 
 fn check(verdict: u32, test: Test, position: Position) -> Check {
@@ -232,6 +237,7 @@ fn before_commands() -> Vec<Check> {
 }
 
 fn each_command() -> Vec<Check> {
+    use FaultKind::{Illegal, LoadConverts, PageMaximum, PageMinimum, PlaneRange, RasterBits};
     use Position::{FirstWord, ThatWord};
     let fault = |verdict, kind, position| Check { verdict, when: When::Fault(kind), position };
     vec![
@@ -244,14 +250,37 @@ fn each_command() -> Vec<Check> {
         // "undefined bit set": "lowest such word"
         Check { verdict: 6, when: When::UndefinedBit(WhichWord::Lowest), position: ThatWord },
         // "illegal value": "lowest such word"
-        fault(7, FaultKind::Illegal, ThatWord),
-        // "clash": "command's first word"
-        fault(8, FaultKind::Clash, FirstWord),
+        fault(7, Illegal, ThatWord),
+        // "Number 8 is no longer given. Refusals, in 8's old place", at the "command's first word":
+        // "15 maximum over the bank's limit, 16 minimum against maximum", "Where 15 and 16 both
+        // hold, 15 is given."
+        fault(15, PageMaximum, FirstWord),
+        fault(16, PageMinimum, FirstWord),
+        // "17 raster bits"
+        fault(17, RasterBits, FirstWord),
+        // "18 bit 23 of a load"
+        fault(18, LoadConverts, FirstWord),
+        // "19 plane range"
+        fault(19, PlaneRange, FirstWord),
         // "payload cut short"
         check(9, Quantity::WordsLeft.fewer_than(Quantity::Length), FirstWord),
         // "this command follows a surface base and is not a BEGIN"
         check(10, Quantity::AfterBase.is_not(0).and(Quantity::IsBegin.is(0)), FirstWord),
     ]
+}
+
+/// "With 6, the answer now also gives the number of the lowest undefined bit set in that word; every
+/// other verdict gives 32 there."
+fn told_bit(terms: &Terms) -> ToldBit {
+    ToldBit {
+        // The masks are of the header: the id has no undefined bit.
+        header: terms.header,
+        of: BitOf::That,
+        among: Among::UndefinedAndSet,
+        which: WhichBit::Lowest,
+        numbered: Numbered::FromLowest,
+        otherwise: NO_BIT,
+    }
 }
 
 /// "record or output buffer too small"

@@ -7,7 +7,7 @@ impl Rules {
     /// What the listing program prints for its standard input.
     pub fn listing(&self, input: &[u8]) -> String {
         self.try_listing(input).unwrap_or_else(|refusal| {
-            let Refusal { verdict, position } = refusal;
+            let Refusal { verdict, position, .. } = refusal;
             let Listing { refused, at, line_end, .. } = &self.listing;
             format!("{refused}{verdict}{at}{position}{line_end}")
         })

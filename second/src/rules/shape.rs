@@ -19,6 +19,7 @@ parts! {
         pub each_command: Vec<Check>,
         pub room_for_records: Vec<Check>,
         pub room_for_form: Vec<Check>,
+        pub told_bit: ToldBit,
         pub base_may_end_list: bool,
         pub base_lasts: BaseLasts,
         pub records: Records,
@@ -123,7 +124,8 @@ impl Payload {
 }
 
 choices! {
-    pub enum FaultKind { Illegal, Clash }
+    /// An illegal value, or one of the clashes.
+    pub enum FaultKind { Illegal, PageMaximum, PageMinimum, RasterBits, LoadConverts, PlaneRange }
 }
 
 /// A value that the words of a command may not have. Faults stand in rising word.
@@ -162,6 +164,39 @@ pub enum Position {
     ThatWord,
     ListLength,
     WholeWordsRead,
+}
+
+parts! {
+    /// The bit that the answer tells.
+    pub struct ToldBit {
+        /// Of an undefined word: the bits of a first word that count, and the rule for it.
+        pub header: Field,
+        pub of: BitOf,
+        pub among: Among,
+        pub which: WhichBit,
+        pub numbered: Numbered,
+        /// With every other verdict.
+        pub otherwise: u32,
+    }
+}
+
+choices! {
+    /// The word of the command whose bit is told.
+    pub enum BitOf { That, First, Last, Any }
+}
+
+choices! {
+    /// The bits of the word of which one is told.
+    pub enum Among { UndefinedAndSet, Set, Undefined }
+}
+
+choices! {
+    pub enum WhichBit { Lowest, Highest }
+}
+
+choices! {
+    /// What the number of a bit is.
+    pub enum Numbered { FromLowest, FromHighest, AsMask }
 }
 
 parts! {

@@ -188,7 +188,7 @@ impl Vary for Check {
 }
 
 impl Check {
-    /// Positions that can be told from the given one. Only 6, 7 and 8 are found at a word.
+    /// Positions that can be told from the given one. Only 6, 7, the clashes and 13 are found at a word.
     fn other_positions(&self) -> Vec<Position> {
         use Position::*;
         let of_word = !matches!(self.when, When::Holds(_));
@@ -209,7 +209,7 @@ impl Vary for When {
         match self {
             When::Holds(test) => within("test", test, When::Holds),
             When::UndefinedBit(which) => within("word", which, When::UndefinedBit),
-            When::Fault(_) => Vec::new(),
+            When::Fault(kind) => within("fault", kind, When::Fault),
             When::WrongAddress(which) => within("pair", which, When::WrongAddress),
         }
     }

@@ -30,32 +30,32 @@ group-at-requires c κs = omega (arith, c .if1 .left, c .before .before .pre .0 
 group-placed-requires : tie.Need-group-placed-requires
 group-placed-requires c κs = omega (arith, c .before .if1 .left, c .before .before .before .pre .0 .inside, pair-count (c .before .before .before .args .pairs .now))
 
-add-refused : tie.Need-add-refused
-add-refused c = record { fits = omega (arith, fault-near _ (c .before .before .before .before .before .group-at .result) _ (c .before .fault .ensures), c .before .before .before .before .before .before .before .before .pre .0 .inside, c .before .before .before .before .before .before .before .before .good, pair-count (c .before .before .before .before .before .before .before .before .args .pairs .now)) }
+fault-requires : tie.Need-refused-fault-requires
+fault-requires c κs = let a = c .before .before .before .before .before .before .before in omega (arith, fault-near _ (c .before .before .before .before .group-at .result) _ (c .first-fault .ensures), a .pre .0 .inside, a .good, pair-count (a .args .pairs .now))
 
 returns-2 : tie.Need-returns-2
 returns-2 c =
-    let a = c .before .before .before .before .before .before .before .before .before in
+    let a = c .before .before .before .before .before .before .before .before in
     let ps = a .args .pairs .now in
     let at = a .args .at in
     let l = values ps in
-    let four : 4 ≤ length l - at = omega (arith, c .before .before .before .before .before .before .before .if1 .left, pair-count ps) in
-    let t = rw (c .before .before .before .before .before .group-placed .ensures) at (c .before .before .before .if2 .taken) in
-    subst (Met ps at) (sym (c .refused2 .ensures)) (λ e.
-    let u = group-bit ps at _ _ (a .pre .0) (a .fits .id .fits) (a .pre .1) four _ (c .before .before .before .before .before .before .group-at .ensures) _ refl (c .before .before .before .before .undefined-bits .result) t e in
-    sym (undefined-fault l at _ _ (a .pre .0) (a .fits .id .fits) (a .pre .1) four _ (c .before .before .before .before .before .before .group-at .ensures) (c .before .before .before .before .undefined-bits .ensures) u _ (c .before .before .fault .ensures)))
+    let four : 4 ≤ length l - at = omega (arith, c .before .before .before .before .before .before .if1 .left, pair-count ps) in
+    let t = rw (c .before .before .before .before .group-placed .ensures) at (c .before .before .if2 .taken) in
+    subst (Met ps at) (sym (c .refused-fault .ensures)) (λ e.
+    let u = group-bit ps at _ _ (a .pre .0) (a .fits .id .fits) (a .pre .1) four _ (c .before .before .before .before .before .group-at .ensures) _ refl (c .before .before .before .undefined-bits .result) t e in
+    sym (undefined-fault l at _ _ (a .pre .0) (a .fits .id .fits) (a .pre .1) four _ (c .before .before .before .before .before .group-at .ensures) (c .before .before .before .undefined-bits .ensures) u _ (c .before .first-fault .ensures)))
 
-add-refused-2 : tie.Need-add-refused-2
-add-refused-2 c = record { fits = omega (arith, fault-near _ (c .before .before .before .before .before .before .before .group-at .result) _ (c .before .fault2 .ensures), c .before .before .before .before .before .before .before .before .before .before .pre .0 .inside, c .before .before .before .before .before .before .before .before .before .before .good, pair-count (c .before .before .before .before .before .before .before .before .before .before .args .pairs .now)) }
+fault-requires-2 : tie.Need-refused-fault-requires-2
+fault-requires-2 c κs = let a = c .before .before .before .before .before .before .before .before .before in omega (arith, fault-near _ (c .before .before .before .before .before .before .group-at .result) _ (c .first-fault2 .ensures), a .pre .0 .inside, a .good, pair-count (a .args .pairs .now))
 
 returns-3 : tie.Need-returns-3
 returns-3 c =
-    let a = c .before .before .before .before .before .before .before .before .before .before .before in
+    let a = c .before .before .before .before .before .before .before .before .before .before in
     let ps = a .args .pairs .now in
     let at = a .args .at in
     let l = values ps in
-    let four : 4 ≤ length l - at = omega (arith, c .before .before .before .before .before .before .before .before .before .if1 .left, pair-count ps) in
-    subst (Met ps at) (sym (c .refused3 .ensures)) (λ e. sym (value-fault l at _ _ (a .pre .0) (a .fits .id .fits) (a .pre .1) four _ (c .before .before .before .before .before .before .before .before .group-at .ensures) (c .before .before .before .before .bad-values .ensures) (c .before .before .before .if3 .taken) _ (c .before .before .fault2 .ensures)))
+    let four : 4 ≤ length l - at = omega (arith, c .before .before .before .before .before .before .before .before .if1 .left, pair-count ps) in
+    subst (Met ps at) (sym (c .refused-fault2 .ensures)) (λ e. sym (value-fault l at _ _ (a .pre .0) (a .fits .id .fits) (a .pre .1) four _ (c .before .before .before .before .before .before .before .group-at .ensures) (c .before .before .before .bad-values .ensures) (c .before .before .if3 .taken) _ (c .before .first-fault2 .ensures)))
 
 add-payload-placed : tie.Need-add-payload-placed
 add-payload-placed c = omega (arith, c .before .before .before .before .before .before .before .before .if1 .left, c .before .before .before .before .before .before .before .before .before .before .pre .0 .inside, c .before .before .before .before .before .before .before .before .before .before .good, pair-count (c .before .before .before .before .before .before .before .before .before .before .args .pairs .now))
@@ -70,7 +70,7 @@ returns-4 c =
     let at = a .args .at in
     let l = values ps in
     let four : 4 ≤ length l - at = omega (arith, c .before .before .before .before .before .before .before .before .before .before .before .if1 .left, pair-count ps) in
-    subst (Met ps at) (sym (c .refused4 .ensures)) (λ e.
+    subst (Met ps at) (sym (c .refused2 .ensures)) (λ e.
     let t : _≡_ {A = Bool} true false = sym (c .before .before .payload-placed .ensures ∙ payload-there ps at _ _ (a .pre .0) (a .fits .id .fits) (a .pre .1) four _ (c .before .before .before .before .before .before .before .before .before .before .group-at .ensures) _ (c .before .before .before .before .payload .ensures) e) ∙ not-true _ (c .before .if5 .taken) in
     let z : _≡_ {A = ℕ} 0 1 = cc in absurd (omega arith))
 
@@ -107,4 +107,4 @@ returns-6 c =
 
 pub decode-group-spec : {M : Type 1} → statement M
 decode-group-spec = tie.close
-    (tie.spec sub-if1 (λ c κs. search needs) returns group-at-requires group-placed-requires (λ c κs. search needs) (λ c κs. search needs) add-refused (λ c κs. search needs) returns-2 (λ c κs. search needs) (λ c κs. search needs) add-refused-2 (λ c κs. search needs) returns-3 (λ c κs. search needs) add-payload-placed payload-placed-requires (λ c κs. search needs) returns-4 add-group-command (λ c κs. search needs) returns-5 (λ c κs. search needs) returns-6)
+    (tie.spec sub-if1 (λ c κs. search needs) returns group-at-requires group-placed-requires (λ c κs. search needs) (λ c κs. search needs) fault-requires returns-2 (λ c κs. search needs) (λ c κs. search needs) fault-requires-2 returns-3 (λ c κs. search needs) add-payload-placed payload-placed-requires (λ c κs. search needs) returns-4 add-group-command (λ c κs. search needs) returns-5 (λ c κs. search needs) returns-6)

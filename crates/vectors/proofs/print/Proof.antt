@@ -4,10 +4,10 @@ use Rattle.vectors.proofs.print.Statement.{statement}
 use Rattle.vectors.proofs.print.Tie as tie
 
 abbrev Inv-loop : tie.InvT-loop
-Inv-loop tally v₀ t6 v = v ≤ 15
+Inv-loop tally v₀ t6 v = v ≤ 20
 
 abbrev μ-loop : tie.MeasureT-loop
-μ-loop tally v₀ t6 v = 15 - v
+μ-loop tally v₀ t6 v = 20 - v
 
 pub print-spec : {M : Type 1} → statement M
 print-spec =

@@ -1,6 +1,6 @@
 //! Refusals of pairs in other orders.
 
-use super::{refused_with, Mutant};
+use super::{is_of_command, refused_with, Mutant};
 use crate::lists::{Case, Image};
 use crate::outcome::{self, Function, Outcome};
 use crate::rules::{self, Refusal, Rules};
@@ -45,9 +45,7 @@ fn list_as_met(case: &Case, outcome: Outcome) -> Outcome {
 
 fn no_room(case: &Case, outcome: Outcome) -> Outcome {
     match Function::FromPci.list_of(case).len() {
-        words if words > case.pci_len => {
-            refused_with(Refusal { verdict: 11, position: words }, outcome)
-        }
+        words if words > case.pci_len => refused_with(Refusal::new(11, words), outcome),
         _ => outcome,
     }
 }
@@ -60,9 +58,9 @@ fn room_before_pairs(case: &Case, outcome: Outcome) -> Outcome {
 }
 
 fn room_before_list(case: &Case, outcome: Outcome) -> Outcome {
-    match outcome.answer[0] {
-        3..=10 => no_room(case, outcome),
-        _ => outcome,
+    match is_of_command(&outcome) {
+        true => no_room(case, outcome),
+        false => outcome,
     }
 }
 

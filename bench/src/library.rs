@@ -1,0 +1,50 @@
+//! Builds of the proved library, with slices for its pointers and lengths.
+
+macro_rules! function {
+    ($name:ident, $symbol:expr, $image:ty, $pointer:ty, $as_pointer:ident) => {
+        pub fn $name(input: &[u32], image: $image, out: &mut [u32], answer: &mut [u32]) -> u32 {
+            extern "C" {
+                #[link_name = $symbol]
+                fn $name(
+                    input: *const u32,
+                    input_words: usize,
+                    image: $pointer,
+                    image_words: usize,
+                    out: *mut u32,
+                    out_words: usize,
+                    answer: *mut u32,
+                    answer_words: usize,
+                ) -> u32;
+            }
+            // SAFETY: each pointer comes with its slice's own length.
+            unsafe {
+                $name(
+                    input.as_ptr(),
+                    input.len(),
+                    image.$as_pointer(),
+                    image.len(),
+                    out.as_mut_ptr(),
+                    out.len(),
+                    answer.as_mut_ptr(),
+                    answer.len(),
+                )
+            }
+        }
+    };
+}
+
+/// A build whose symbols start so.
+macro_rules! library {
+    ($build:ident, $prefix:literal) => {
+        pub mod $build {
+            function!(read, concat!($prefix, "read"), &mut [u32], *mut u32, as_mut_ptr);
+            function!(normalise, concat!($prefix, "normalise"), &[u32], *const u32, as_ptr);
+            function!(to_pci, concat!($prefix, "to_pci"), &[u32], *const u32, as_ptr);
+            function!(from_pci, concat!($prefix, "from_pci"), &[u32], *const u32, as_ptr);
+        }
+    };
+}
+
+library!(proved, "xp10_");
+#[cfg(before)]
+library!(before, "before_xp10_");

@@ -1,0 +1,188 @@
+-- The first fault of a command, from the masks of its row.
+use Prim.Native.Nat.{ℕ, zero, suc, _-_, _/_, _%_, _^_, _≤_, _<_}
+use native.Mathlib.Nat.{pow-suc, zero-add}
+use native.Mathlib.Omega.{arith}
+use mathlib.Core.Path.{_≡_, refl, ap, sym, _∙_}
+use mathlib.Core.Bool.{Bool, true, false, cond, not, _&&_, _||_}
+use mathlib.Core.List.{List, [], _∷_}
+use lib.Dec.{eqb, leb, ltb}
+use lib.Pow.{pow-pos}
+use borrow.Author.Tests.{le-leb}
+use lib.ListN.{length, take}
+use Rattle.rules.specs.declared.Refusal.{Refusal}
+use Rattle.rules.specs.Word.{lowest, undefined}
+use Rattle.rules.specs.Table.{Row}
+use Rattle.rules.specs.Values.{refusal, Fault, undefinedFaults, valueFaults, faults}
+use Rattle.rules.specs.Decode.{Decoded, bad, firstFault}
+use Rattle.rules.proofs.Bools.{and-left, and-right}
+use Rattle.rules.proofs.Numbers.{AllProper}
+use Rattle.table.specs.declared.Group.{Group}
+use Rattle.table.specs.Ids.{groupId}
+use Rattle.table.specs.Tables.{rowNumber, rowAt, maskOf, rowMasks}
+use Rattle.table.specs.Tables.{more}
+use Rattle.faults.specs.declared.Faults.{Faults}
+use Rattle.faults.specs.Faults.{firstRefusal, found, none, illegal, firstClash, firstOf, unlessDefined, own, outside}
+use Rattle.table.proofs.Tables.{every-from, same, same-true, Known, ruled}
+
+-- every bit is defined under the mask of all bits
+ones : (k w : ℕ) → lowest k w (2 ^ k - 1) ≡ k
+unfolding lowest
+ones zero w = refl
+ones (suc k) w =
+    let p = pow-pos k in
+    let q = pow-suc 2 k in
+    let half : (2 ^ suc k - 1) / 2 ≡ 2 ^ k - 1 = omega arith in
+    let odd : (2 ^ suc k - 1) % 2 ≡ 1 = omega arith in
+    rw (half, odd, le-leb (w % 2) 1 (omega arith)) (ap suc (ones k (w / 2)))
+
+all-defined : (w : ℕ) → undefined w 0xFFFFFFFF ≡ false
+unfolding undefined
+all-defined w = ap (λ (k : ℕ). ltb k 32) (ones 32 w)
+
+no-case : {A : Type 0} (a b c d : Bool) (w x y z e : A) → ((a || b) || (c || d)) ≡ false → cond a w (cond b x (cond c y (cond d z e))) ≡ e
+no-case true _ _ _ w x y z e f = let u : _≡_ {A = Bool} true false = f in cc
+no-case false true _ _ w x y z e f = let u : _≡_ {A = Bool} true false = f in cc
+no-case false false true _ w x y z e f = let u : _≡_ {A = Bool} true false = f in cc
+no-case false false false true w x y z e f = let u : _≡_ {A = Bool} true false = f in cc
+no-case false false false false w x y z e f = refl
+
+unruled-values : (id h : ℕ) (ws : List ℕ) → ruled id ≡ false → valueFaults id h ws ≡ []
+unfolding valueFaults
+unruled-values id h ws e = no-case (eqb id 0x40) (eqb id 0x48) (eqb id 0x84) (eqb id 0x88) _ _ _ _ [] e
+
+-- "3, 4, 6 and 7 are illegal", and of the others two codes, 0 and 5, have no third and fourth words: as the code asks it
+codeTest : ℕ → Bool
+codeTest code =
+    let illegal = (eqb code 3 || eqb code 4) || leb 6 code in
+    same (ltb 2 code && not (eqb code 5)) illegal && (illegal || same (not (eqb code 1) && not (eqb code 2)) (eqb code 0 || eqb code 5))
+
+code-test : (code : ℕ) → code < 8 → codeTest code ≡ true
+unfolding codeTest
+code-test code h = ap codeTest (sym (zero-add code)) ∙ every-from 8 0 codeTest refl code h
+
+-- an illegal code is refused in the first word, so that of it the third and fourth words do not matter
+legal-bare : (i b′ b s t f : Bool) (next : Refusal) → (i || same b′ b) ≡ true → illegal i s (b′ && t) (b′ && f) next ≡ illegal i s (b && t) (b && f) next
+legal-bare true b′ b s t f next e = refl
+legal-bare false b′ b s t f next e = ap (λ (x : Bool). illegal false s (x && t) (x && f) next) (same-true b′ b e)
+
+pub load-first : (code : ℕ) → code < 8 → (s t f : Bool) (next : Refusal)
+    → illegal (ltb 2 code && not (eqb code 5)) s ((not (eqb code 1) && not (eqb code 2)) && t) ((not (eqb code 1) && not (eqb code 2)) && f) next
+    ≡ illegal ((eqb code 3 || eqb code 4) || leb 6 code) s ((eqb code 0 || eqb code 5) && t) ((eqb code 0 || eqb code 5) && f) next
+unfolding codeTest
+load-first code h s t f next =
+    let b′ : Bool = not (eqb code 1) && not (eqb code 2) in
+    let i : Bool = (eqb code 3 || eqb code 4) || leb 6 code in
+    let first : (ltb 2 code && not (eqb code 5)) ≡ i = same-true (ltb 2 code && not (eqb code 5)) i (and-left (same (ltb 2 code && not (eqb code 5)) i) _ (code-test code h)) in
+    ap (λ (x : Bool). illegal x s (b′ && t) (b′ && f) next) first
+    ∙ legal-bare i b′ (eqb code 0 || eqb code 5) s t f next (and-right (same (ltb 2 code && not (eqb code 5)) i) _ (code-test code h))
+
+-- two clashes with their numbers
+pub clashes-are : (a b : Bool) (n m : ℕ) → eqb n 0 ≡ false → firstClash (cond a n 0) (cond b m 0) ≡ cond a (refusal n 0) (cond b (refusal m 0) none)
+clashes-are true b n m e = rw e
+clashes-are false true n m e = refl
+clashes-are false false n m e = refl
+
+found-clash : (n m : ℕ) → not (eqb n 0) || not (eqb m 0) ≡ found (firstClash n m)
+found-clash n m =
+    (elim (eqb n 0) as (λ t. eqb n 0 ≡ t → not t || not (eqb m 0) ≡ found (cond t (refusal m 0) (refusal n 0))) [
+      | true ↦ λ e. refl
+      | false ↦ λ e. ap not (sym e)
+    ]) refl
+
+-- the faults of a command with one word, and with four
+module _ (r : Row) (h a b c : ℕ) (m₀ m₁ m₂ m₃ : ℕ) where
+  pub by-masks : (more : List ℕ) → r .more ≡ more → (m₀ ∷ m₁ ∷ m₂ ∷ m₃ ∷ []) ≡ (maskOf r 0 ∷ maskOf r 1 ∷ maskOf r 2 ∷ maskOf r 3 ∷ [])
+      → (fours : Bool) → length more ≡ cond fours 3 0 → (fours ≡ false → ruled (r .id) ≡ false)
+      → unlessDefined 0 h m₀ (unlessDefined 1 a m₁ (unlessDefined 2 b m₂ (unlessDefined 3 c m₃ (firstRefusal (valueFaults (r .id) h (a ∷ b ∷ c ∷ []))))))
+      ≡ firstRefusal (faults r h (take (length (r .more)) (a ∷ b ∷ c ∷ [])))
+  unfolding faults
+  by-masks [] em e true l n = absurd (omega arith)
+  by-masks [] em e false l n =
+      let e₀ : m₀ ≡ r .mask = cc in
+      let e₁ : m₁ ≡ 0xFFFFFFFF = cc in
+      let e₂ : m₂ ≡ 0xFFFFFFFF = cc in
+      let e₃ : m₃ ≡ 0xFFFFFFFF = cc in
+      rw (em, e₀, e₁, e₂, e₃, all-defined a, all-defined b, all-defined c, unruled-values (r .id) h (a ∷ b ∷ c ∷ []) (n refl), unruled-values (r .id) h [] (n refl))
+  by-masks (x ∷ []) em e true l n = absurd (omega arith)
+  by-masks (x ∷ []) em e false l n = absurd (omega arith)
+  by-masks (x ∷ y ∷ []) em e true l n = absurd (omega arith)
+  by-masks (x ∷ y ∷ []) em e false l n = absurd (omega arith)
+  by-masks (x ∷ y ∷ z ∷ []) em e true l n =
+      let e₀ : m₀ ≡ r .mask = cc in
+      let e₁ : m₁ ≡ x = cc in
+      let e₂ : m₂ ≡ y = cc in
+      let e₃ : m₃ ≡ z = cc in
+      rw (em, e₀, e₁, e₂, e₃)
+  by-masks (x ∷ y ∷ z ∷ []) em e false l n = absurd (omega arith)
+  by-masks (x ∷ y ∷ z ∷ w ∷ rest) em e true l n = absurd (omega arith)
+  by-masks (x ∷ y ∷ z ∷ w ∷ rest) em e false l n = absurd (omega arith)
+
+-- four words against the masks of an id's row, then the rules on values
+abbrev pub masked : Group → Group → Refusal → Refusal
+masked g m next =
+    unlessDefined 0 (g .header) (m .header)
+    (unlessDefined 1 (g .second) (m .second) (unlessDefined 2 (g .third) (m .third) (unlessDefined 3 (g .fourth) (m .fourth) next)))
+
+-- they give the first fault of its command
+pub fault-is : (id : ℕ) (g m : Group) → Known id → m ≡ rowMasks (rowNumber id)
+    → masked g m (firstRefusal (valueFaults id (g .header) (more g))) ≡ firstRefusal (faults (rowAt id) (g .header) (own (rowAt id) g))
+fault-is id g m k e =
+    rw e
+    (ap (λ (j : ℕ). masked g (rowMasks (rowNumber id)) (firstRefusal (valueFaults j (g .header) (more g)))) (sym (k .own-id))
+    ∙ by-masks (rowAt id) (g .header) (g .second) (g .third) (g .fourth) _ _ _ _ (rowAt id .more) refl (k .masks) (groupId id) (k .length-more)
+    (λ f. ap ruled (k .own-id) ∙ k .one-word f))
+
+-- a fault among four, or a later one
+found-first : (a b c d : Bool) (p q r s next : Refusal) → found p ≡ true → found q ≡ true → found r ≡ true → found s ≡ true
+    → ((a || b) || (c || d)) || found next ≡ found (cond a p (cond b q (cond c r (cond d s next))))
+found-first true _ _ _ p q r s next e f g h = sym e
+found-first false true _ _ p q r s next e f g h = sym f
+found-first false false true _ p q r s next e f g h = sym g
+found-first false false false true p q r s next e f g h = sym h
+found-first false false false false p q r s next e f g h = refl
+
+-- whether there is one
+pub faulty-is : (id : ℕ) (g : Group) → Known id
+    → outside g (rowMasks (rowNumber id)) || found (firstRefusal (valueFaults id (g .header) (more g)))
+    ≡ found (firstRefusal (faults (rowAt id) (g .header) (own (rowAt id) g)))
+faulty-is id g k =
+    let m : Group = rowMasks (rowNumber id) in
+    found-first (undefined (g .header) (m .header)) (undefined (g .second) (m .second)) (undefined (g .third) (m .third)) (undefined (g .fourth) (m .fourth))
+    _ _ _ _ (firstRefusal (valueFaults id (g .header) (more g))) refl refl refl refl ∙ ap found (fault-is id g m k refl)
+
+pub any-is : (f : Faults) → ((f .first || f .second) || (f .third || f .fourth)) || (not (eqb (f .clash) 0) || not (eqb (f .«other_clash») 0)) ≡ found (firstOf f)
+any-is f =
+    ap (λ (b : Bool). ((f .first || f .second) || (f .third || f .fourth)) || b) (found-clash (f .clash) (f .«other_clash»))
+    ∙ found-first (f .first) (f .second) (f .third) (f .fourth) _ _ _ _ (firstClash (f .clash) (f .«other_clash»)) refl refl refl refl
+
+no-words : (i : ℕ) (ms : List ℕ) → undefinedFaults i ms [] ≡ []
+no-words i [] = refl
+no-words i (m ∷ ms) = refl
+
+-- a command of one word has one rule
+pub single-fault : (id h : ℕ) → Known id → groupId id ≡ false
+    → firstRefusal (faults (rowAt id) h []) ≡ unlessDefined 0 h (rowMasks (rowNumber id) .header) none
+unfolding faults
+single-fault id h k f =
+    let m : rowMasks (rowNumber id) .header ≡ rowAt id .mask = let q = k .masks in cc in
+    rw (m, no-words 1 (rowAt id .more), unruled-values (rowAt id .id) h [] (ap ruled (k .own-id) ∙ k .one-word f))
+
+-- the first fault, and what stands behind the faults
+pub first-fault : (m : ℕ) (fs : List Fault) (d : Decoded) → AllProper m fs
+    → firstFault fs d ≡ cond (eqb (firstRefusal fs .number) 0) d (bad (firstRefusal fs))
+first-fault m [] d p = refl
+first-fault m (f ∷ fs) d p =
+    (elim (f .found) as (λ t. f .found ≡ t → cond t (bad (f .why)) (firstFault fs d)
+    ≡ cond (eqb ((cond t (f .why) (firstRefusal fs)) .number) 0) d (bad (cond t (f .why) (firstRefusal fs)))) [
+      | true ↦ λ e. ap (λ (b : Bool). cond b d (bad (f .why))) (sym (p .0 e .number))
+      | false ↦ λ e. first-fault m fs d (p .1)
+    ]) refl
+
+-- it stands near the command's first word
+pub first-near : (m : ℕ) (fs : List Fault) → AllProper m fs → firstRefusal fs .word ≤ m
+first-near m [] p = omega arith
+first-near m (f ∷ fs) p =
+    (elim (f .found) as (λ t. f .found ≡ t → cond t (f .why) (firstRefusal fs) .word ≤ m) [
+      | true ↦ λ e. p .0 e .near
+      | false ↦ λ e. first-near m fs (p .1)
+    ]) refl

@@ -1,0 +1,31 @@
+use mathlib.Core.Path.{ap, _∙_}
+use borrow.Author.Tests.{ne-eqb}
+use Rattle.rules.specs.Values.{valueFaults}
+use Rattle.faults.specs.Faults.{found}
+use borrow.Author.Needs.{needs}
+use Rattle.faults.proofs.bad_values.Statement.{statement}
+use Rattle.faults.proofs.bad_values.Tie as tie
+
+returns : tie.Need-returns
+unfolding valueFaults
+returns c = rw (c .before .before .match .keys1) (c .any .ensures ∙ ap found (c .before .load-faults .ensures))
+
+returns-2 : tie.Need-returns-2
+unfolding valueFaults
+returns-2 c = rw (c .before .before .match .keys2) (c .any2 .ensures ∙ ap found (c .before .primitive-faults .ensures))
+
+returns-3 : tie.Need-returns-3
+unfolding valueFaults
+returns-3 c = rw (c .before .before .match .keys3) (c .any3 .ensures ∙ ap found (c .before .clip-faults .ensures))
+
+returns-4 : tie.Need-returns-4
+unfolding valueFaults
+returns-4 c = rw (c .before .before .match .keys4) (c .any4 .ensures ∙ ap found (c .before .raster-faults .ensures))
+
+returns-5 : tie.Need-returns-5
+unfolding valueFaults
+returns-5 c = rw (ne-eqb _ _ (c .match .rest .0 .0 .0 .1), ne-eqb _ _ (c .match .rest .0 .0 .1), ne-eqb _ _ (c .match .rest .0 .1), ne-eqb _ _ (c .match .rest .1))
+
+pub bad-values-spec : {M : Type 1} → statement M
+bad-values-spec = tie.close
+    (tie.spec (λ c κs. search needs) (λ c κs. search needs) (λ c κs. search needs) (λ c κs. search needs) (λ c κs. search needs) (λ c κs. search needs) (λ c κs. search needs) (λ c κs. search needs) returns returns-2 returns-3 returns-4 returns-5)

@@ -1,0 +1,266 @@
+// The rules on a command's own words: undefined bits, illegal values and clashes.
+use rules::NO_BIT;
+use rules::Refusal;
+use table::Group;
+ghost use mathlib.Core.Path.{_≡_};
+ghost use mathlib.Core.Bool.{cond};
+ghost use mathlib.Core.List.{[], _∷_};
+ghost use Prim.Native.Nat.{_<_};
+ghost use Rattle.rules.specs.Word.{lowestUndefined, undefined};
+ghost use Rattle.rules.specs.Values.{refusal, undefinedBit, loadFaults, primitiveFaults, clipFaults, rasterFaults, valueFaults, pageLimit, faults};
+ghost use Rattle.table.specs.Tables.{rowNumber, rowAt, rowMasks, more};
+ghost use Rattle.faults.specs.Faults.{firstRefusal, found, none, firstClash, firstOf, unlessDefined, own, outside};
+
+// ---- undefined bits
+
+// A bit is set in the word that the mask does not define.
+pub fn undefined(word: u32, mask: u32) -> bool
+    ensures { λ r. ⌜ r ≡ undefined word mask ⌝ }
+{
+    word & !mask != 0
+}
+
+// The lowest such bit, 32 where there is none.
+fn lowest_undefined(word: u32, mask: u32) -> u32
+    ensures { λ r. ⌜ r ≡ lowestUndefined word mask ⌝ }
+{
+    u32::trailing_zeros(word & !mask)
+}
+
+// Refusal 6, of a word with an undefined bit.
+fn undefined_bit(at: usize, word: u32, mask: u32) -> Refusal
+    ensures { λ r. ⌜ r ≡ undefinedBit at word mask ⌝ }
+{
+    Refusal {
+        number: 6,
+        word: at,
+        bit: lowest_undefined(word, mask),
+    }
+}
+
+// The same where the word has one, else the next refusal.
+fn unless_defined(at: usize, word: u32, mask: u32, next: Refusal) -> Refusal
+    ensures { λ r. ⌜ r ≡ unlessDefined at word mask next ⌝ }
+{
+    if undefined(word, mask) {
+        return undefined_bit(at, word, mask);
+    }
+    next
+}
+
+// A word of a group has an undefined bit: with `bad_values` all that an accepted command is asked.
+pub fn undefined_bits(row: u8, g: Group) -> bool
+    requires { ⌜ row < 16 ⌝ }
+    ensures { λ r. ⌜ r ≡ outside g (rowMasks row) ⌝ }
+{
+    let m = table::masks_of(row);
+    let a = undefined(g.header, m.header);
+    let b = undefined(g.second, m.second);
+    let c = undefined(g.third, m.third);
+    let d = undefined(g.fourth, m.fourth);
+    (a | b) | (c | d)
+}
+
+// ---- illegal values and clashes
+
+// The rules on values that a command breaks: an illegal value in each of its words, and the numbers of its clashes, 0 for
+// a clash that there is not.
+pub struct Faults {
+    pub first: bool,
+    pub second: bool,
+    pub third: bool,
+    pub fourth: bool,
+    pub clash: u32,
+    pub other_clash: u32,
+}
+
+// The number of a clash, where it is found.
+fn number_if(found: bool, number: u32) -> u32
+    ensures { λ r. ⌜ r ≡ cond found number 0 ⌝ }
+{
+    if found { number } else { 0 }
+}
+
+fn load_faults(g: Group) -> Faults
+    ensures { λ r. ⌜ firstOf r ≡ firstRefusal (loadFaults (g .header) (g .second) (g .third) (g .fourth)) ⌝ }
+{
+    let code = (g.header >> 20) % 8;
+    let floats = (g.header >> 23) % 2;
+    let planes = (g.header >> 10) % 512 + g.header % 512;
+    let bare = (code != 1) & (code != 2); // 0 or 5: other codes are illegal, in the first word
+    Faults {
+        first: (2 < code) & (code != 5),
+        second: (code != 2) & (g.second != 0),
+        third: bare & (g.third != 0),
+        fourth: bare & (g.fourth != 0),
+        clash: number_if((code != 5) & (floats == 1), 18),
+        other_clash: number_if((code == 5) & (8 < planes), 19),
+    }
+}
+
+fn primitive_faults(g: Group) -> Faults
+    ensures { λ r. ⌜ firstOf r ≡ firstRefusal (primitiveFaults (g .header) (g .second) (g .third) (g .fourth)) ⌝ }
+{
+    Faults {
+        first: g.header != 0,
+        second: g.second != 0,
+        third: g.third != 0,
+        fourth: g.fourth != 0,
+        clash: 0,
+        other_clash: 0,
+    }
+}
+
+fn page_limit(bank: u32) -> u32
+    ensures { λ r. ⌜ r ≡ pageLimit bank ⌝ }
+{
+    match bank {
+        0 => 15,
+        1 => 11,
+        _ => 6,
+    }
+}
+
+fn clip_faults(g: Group) -> Faults
+    ensures { λ r. ⌜ firstOf r ≡ firstRefusal (clipFaults (g .second) (g .third)) ⌝ }
+{
+    let bank = (g.second >> 28) % 4;
+    let most = (g.third >> 28) % 16;
+    let least = (g.third >> 12) % 16;
+    Faults {
+        first: false,
+        second: bank == 3,
+        third: false,
+        fourth: false,
+        clash: number_if(page_limit(bank) < most, 15),
+        other_clash: number_if((least != 0) & (most <= least), 16),
+    }
+}
+
+fn raster_faults(g: Group) -> Faults
+    ensures { λ r. ⌜ firstOf r ≡ firstRefusal (rasterFaults (g .header)) ⌝ }
+{
+    Faults {
+        first: false,
+        second: false,
+        third: false,
+        fourth: false,
+        clash: number_if(
+            ((g.header >> 22) % 2 == 0) & ((g.header >> 14) % 2 == 1),
+            17,
+        ),
+        other_clash: 0,
+    }
+}
+
+fn any(f: Faults) -> bool
+    ensures { λ r. ⌜ r ≡ found (firstOf f) ⌝ }
+{
+    ((f.first | f.second) | (f.third | f.fourth)) | ((f.clash != 0) | (f.other_clash != 0))
+}
+
+// A value is illegal or clashes; which one is asked only on refusal. The words come one by one: so it is inlined in both
+// of its callers, the decoding of lists and of pairs.
+pub fn bad_values(id: u8, header: u32, second: u32, third: u32, fourth: u32) -> bool
+    ensures { λ r. ⌜ r ≡ found (firstRefusal (valueFaults id header (second ∷ third ∷ fourth ∷ []))) ⌝ }
+{
+    let g = Group {
+        header,
+        second,
+        third,
+        fourth,
+    };
+    match id {
+        0x40 => any(load_faults(g)),
+        0x48 => any(primitive_faults(g)),
+        0x84 => any(clip_faults(g)),
+        0x88 => any(raster_faults(g)),
+        _ => false,
+    }
+}
+
+// Refusal 7 of a word with an illegal value, else the next refusal.
+fn unless_legal(at: usize, illegal: bool, next: Refusal) -> Refusal
+    ensures { λ r. ⌜ r ≡ cond illegal (refusal 7 at) next ⌝ }
+{
+    if illegal {
+        return Refusal {
+            number: 7,
+            word: at,
+            bit: NO_BIT,
+        };
+    }
+    next
+}
+
+// A clash is at the command's first word; no clash has number 0.
+fn first_clash(f: Faults) -> Refusal
+    ensures { λ r. ⌜ r ≡ firstClash (f .clash) (f .«other_clash») ⌝ }
+{
+    if f.clash != 0 {
+        return Refusal {
+            number: f.clash,
+            word: 0,
+            bit: NO_BIT,
+        };
+    }
+    Refusal {
+        number: f.other_clash,
+        word: 0,
+        bit: NO_BIT,
+    }
+}
+
+fn first(f: Faults) -> Refusal
+    ensures { λ r. ⌜ r ≡ firstOf f ⌝ }
+{
+    let clash = first_clash(f);
+    let fourth = unless_legal(3, f.fourth, clash);
+    let third = unless_legal(2, f.third, fourth);
+    let second = unless_legal(1, f.second, third);
+    unless_legal(0, f.first, second)
+}
+
+fn no_fault() -> Refusal
+    ensures { λ r. ⌜ r ≡ none ⌝ }
+{
+    Refusal {
+        number: 0,
+        word: 0,
+        bit: NO_BIT,
+    }
+}
+
+// Refusals 7 and 15 to 19.
+fn value_fault(id: u8, g: Group) -> Refusal
+    ensures { λ r. ⌜ r ≡ firstRefusal (valueFaults id (g .header) (more g)) ⌝ }
+{
+    match id {
+        0x40 => first(load_faults(g)),
+        0x48 => first(primitive_faults(g)),
+        0x84 => first(clip_faults(g)),
+        0x88 => first(raster_faults(g)),
+        _ => no_fault(),
+    }
+}
+
+// ---- all of them
+
+// Refusals 6, 7 and 15 to 19 of a command of four words.
+pub fn first_fault(row: u8, id: u8, header: u32, second: u32, third: u32, fourth: u32) -> Refusal
+    requires { ⌜ (row ≡ rowNumber id) × (row < 16) ⌝ }
+    ensures { λ r. ⌜ r ≡ firstRefusal (faults (rowAt id) header (own (rowAt id) (record { header = header; second = second; third = third; fourth = fourth }))) ⌝ }
+{
+    let m = table::masks_of(row);
+    let g = Group {
+        header,
+        second,
+        third,
+        fourth,
+    };
+    let f = value_fault(id, g);
+    let f = unless_defined(3, fourth, m.fourth, f);
+    let f = unless_defined(2, third, m.third, f);
+    let f = unless_defined(1, second, m.second, f);
+    unless_defined(0, header, m.header, f)
+}

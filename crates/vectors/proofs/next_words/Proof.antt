@@ -1,0 +1,14 @@
+use native.Mathlib.Omega.{arith}
+use lib.ListN.{length-take}
+use borrow.Author.Needs.{needs}
+use Rattle.vectors.proofs.next_words.Statement.{statement}
+use Rattle.vectors.proofs.next_words.Tie as tie
+
+slice-aggregate-bytes : tie.Need-slice-aggregate-load-words
+slice-aggregate-bytes c = simp length-take (omega arith)
+
+pub next-words-spec : {M : Type 1} → statement M
+next-words-spec =
+    tie.close
+    (tie.spec (λ c κs. search needs) (λ c. search needs) (λ c. search needs) slice-aggregate-bytes (λ c κs. search needs)
+    (λ c. search needs) (λ c. search needs))

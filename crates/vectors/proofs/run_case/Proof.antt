@@ -1,0 +1,19 @@
+use native.Mathlib.Omega.{arith}
+use borrow.Author.Needs.{needs}
+use Prim.Native.Nat.{_-_, _≤_}
+use mathlib.Core.Path.{_≡_}
+use lib.ListN.{length}
+use Rattle.vectors.proofs.run_case.Statement.{statement}
+use Rattle.vectors.proofs.run_case.Tie as tie
+
+abbrev Inv-loop : tie.InvT-loop
+Inv-loop front list image₀ buffer₀ tally₀ digest₀ k₀ image buffer tally digest k = (k ≤ 4) × ((length image ≡ length image₀) × (length buffer ≡ length buffer₀))
+
+abbrev μ-loop : tie.MeasureT-loop
+μ-loop front list image₀ buffer₀ tally₀ digest₀ k₀ image buffer tally digest k = 4 - k
+
+pub run-case-spec : {M : Type 1} → statement M
+run-case-spec =
+    tie.close
+    (tie.spec Inv-loop μ-loop (λ c. search needs) (λ c. search needs) (λ c κs. search needs) (λ c. search needs) (λ c κs. search needs)
+    (λ c. search needs) (λ c. search needs) (λ c. search needs) (λ c. search needs) (λ c. search needs) (λ c. search needs))
