@@ -21,7 +21,7 @@ use Rattle.table.specs.Ids.{groupId}
 use Rattle.table.specs.Tables.{rowNumber, rowAt, maskOf, rowMasks}
 use Rattle.table.specs.Tables.{more}
 use Rattle.faults.specs.declared.Faults.{Faults}
-use Rattle.faults.specs.Faults.{firstRefusal, found, none, illegal, firstClash, firstOf, unlessDefined, own, outside}
+use Rattle.faults.specs.Faults.{firstRefusal, found, none, illegal, firstOf, unlessDefined, own, outside}
 use Rattle.table.proofs.Tables.{every-from, same, same-true, Known, ruled}
 
 -- every bit is defined under the mask of all bits
@@ -75,19 +75,6 @@ load-first code h s t f next =
     let first : (ltb 2 code && not (eqb code 5)) ≡ i = same-true (ltb 2 code && not (eqb code 5)) i (and-left (same (ltb 2 code && not (eqb code 5)) i) _ (code-test code h)) in
     ap (λ (x : Bool). illegal x s (b′ && t) (b′ && f) next) first
     ∙ legal-bare i b′ (eqb code 0 || eqb code 5) s t f next (and-right (same (ltb 2 code && not (eqb code 5)) i) _ (code-test code h))
-
--- two clashes with their numbers
-pub clashes-are : (a b : Bool) (n m : ℕ) → eqb n 0 ≡ false → firstClash (cond a n 0) (cond b m 0) ≡ cond a (refusal n 0) (cond b (refusal m 0) none)
-clashes-are true b n m e = rw e
-clashes-are false true n m e = refl
-clashes-are false false n m e = refl
-
-found-clash : (n m : ℕ) → not (eqb n 0) || not (eqb m 0) ≡ found (firstClash n m)
-found-clash n m =
-    (elim (eqb n 0) as (λ t. eqb n 0 ≡ t → not t || not (eqb m 0) ≡ found (cond t (refusal m 0) (refusal n 0))) [
-      | true ↦ λ e. refl
-      | false ↦ λ e. ap not (sym e)
-    ]) refl
 
 -- the faults of a command with one word, and with four
 module _ (r : Row) (h a b c : ℕ) (m₀ m₁ m₂ m₃ : ℕ) where
@@ -150,10 +137,8 @@ faulty-is id g k =
     found-first (undefined (g .header) (m .header)) (undefined (g .second) (m .second)) (undefined (g .third) (m .third)) (undefined (g .fourth) (m .fourth))
     _ _ _ _ (firstRefusal (valueFaults id (g .header) (more g))) refl refl refl refl ∙ ap found (fault-is id g m k refl)
 
-pub any-is : (f : Faults) → ((f .first || f .second) || (f .third || f .fourth)) || (not (eqb (f .clash) 0) || not (eqb (f .«other_clash») 0)) ≡ found (firstOf f)
-any-is f =
-    ap (λ (b : Bool). ((f .first || f .second) || (f .third || f .fourth)) || b) (found-clash (f .clash) (f .«other_clash»))
-    ∙ found-first (f .first) (f .second) (f .third) (f .fourth) _ _ _ _ (firstClash (f .clash) (f .«other_clash»)) refl refl refl refl
+pub any-is : (f : Faults) → ((f .first || f .second) || (f .third || f .fourth)) || not (eqb (f .clash) 0) ≡ found (firstOf f)
+any-is f = found-first (f .first) (f .second) (f .third) (f .fourth) _ _ _ _ (refusal (f .clash) 0) refl refl refl refl
 
 no-words : (i : ℕ) (ms : List ℕ) → undefinedFaults i ms [] ≡ []
 no-words i [] = refl

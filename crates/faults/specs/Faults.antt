@@ -27,13 +27,9 @@ found f = not (eqb (f .number) 0)
 abbrev pub illegal : Bool → Bool → Bool → Bool → Refusal → Refusal
 illegal a b c d next = cond a (refusal 7 0) (cond b (refusal 7 1) (cond c (refusal 7 2) (cond d (refusal 7 3) next)))
 
--- the first of two clashes by their numbers, 0 for a clash that there is not
-abbrev pub firstClash : ℕ → ℕ → Refusal
-firstClash n m = cond (eqb n 0) (refusal m 0) (refusal n 0)
-
 -- the first of the rules on values that a command breaks
 abbrev pub firstOf : Faults → Refusal
-firstOf f = illegal (f .first) (f .second) (f .third) (f .fourth) (firstClash (f .clash) (f .«other_clash»))
+firstOf f = illegal (f .first) (f .second) (f .third) (f .fourth) (refusal (f .clash) 0)
 
 -- 6 of word i, where it has an undefined bit
 abbrev pub unlessDefined : ℕ → ℕ → ℕ → Refusal → Refusal

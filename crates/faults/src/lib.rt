@@ -9,7 +9,7 @@ ghost use Prim.Native.Nat.{_<_};
 ghost use Rattle.rules.specs.Word.{lowestUndefined, undefined};
 ghost use Rattle.rules.specs.Values.{refusal, undefinedBit, loadFaults, primitiveFaults, clipFaults, rasterFaults, valueFaults, pageLimit, faults};
 ghost use Rattle.table.specs.Tables.{rowNumber, rowAt, rowMasks, more};
-ghost use Rattle.faults.specs.Faults.{firstRefusal, found, none, firstClash, firstOf, unlessDefined, own, outside};
+ghost use Rattle.faults.specs.Faults.{firstRefusal, found, none, firstOf, unlessDefined, own, outside};
 
 // ---- undefined bits
 
@@ -63,22 +63,21 @@ pub fn undefined_bits(row: u8, g: Group) -> bool
 
 // ---- illegal values and clashes
 
-// The rules on values that a command breaks: an illegal value in each of its words, and the numbers of its clashes, 0 for
-// a clash that there is not.
+// The rules on values that a command breaks: an illegal value in each of its words, and the number of its first clash, 0
+// where there is none.
 pub struct Faults {
     pub first: bool,
     pub second: bool,
     pub third: bool,
     pub fourth: bool,
     pub clash: u32,
-    pub other_clash: u32,
 }
 
-// The number of a clash, where it is found.
-fn number_if(found: bool, number: u32) -> u32
-    ensures { λ r. ⌜ r ≡ cond found number 0 ⌝ }
+// The number of a clash where it is found, else that of the next.
+fn clash(found: bool, number: u32, next: u32) -> u32
+    ensures { λ r. ⌜ refusal r 0 ≡ cond found (refusal number 0) (refusal next 0) ⌝ }
 {
-    if found { number } else { 0 }
+    if found { number } else { next }
 }
 
 fn load_faults(g: Group) -> Faults
@@ -87,14 +86,14 @@ fn load_faults(g: Group) -> Faults
     let code = (g.header >> 20) % 8;
     let floats = (g.header >> 23) % 2;
     let planes = (g.header >> 10) % 512 + g.header % 512;
+    let range = clash((code == 5) & (8 < planes), 19, 0);
     let bare = (code != 1) & (code != 2); // 0 or 5: other codes are illegal, in the first word
     Faults {
         first: (2 < code) & (code != 5),
         second: (code != 2) & (g.second != 0),
         third: bare & (g.third != 0),
         fourth: bare & (g.fourth != 0),
-        clash: number_if((code != 5) & (floats == 1), 18),
-        other_clash: number_if((code == 5) & (8 < planes), 19),
+        clash: clash((code != 5) & (floats == 1), 18, range),
     }
 }
 
@@ -107,7 +106,6 @@ fn primitive_faults(g: Group) -> Faults
         third: g.third != 0,
         fourth: g.fourth != 0,
         clash: 0,
-        other_clash: 0,
     }
 }
 
@@ -127,36 +125,33 @@ fn clip_faults(g: Group) -> Faults
     let bank = (g.second >> 28) % 4;
     let most = (g.third >> 28) % 16;
     let least = (g.third >> 12) % 16;
+    let minimum = clash((least != 0) & (most <= least), 16, 0);
     Faults {
         first: false,
         second: bank == 3,
         third: false,
         fourth: false,
-        clash: number_if(page_limit(bank) < most, 15),
-        other_clash: number_if((least != 0) & (most <= least), 16),
+        clash: clash(page_limit(bank) < most, 15, minimum),
     }
 }
 
 fn raster_faults(g: Group) -> Faults
     ensures { λ r. ⌜ firstOf r ≡ firstRefusal (rasterFaults (g .header)) ⌝ }
 {
+    let bits = ((g.header >> 22) % 2 == 0) & ((g.header >> 14) % 2 == 1);
     Faults {
         first: false,
         second: false,
         third: false,
         fourth: false,
-        clash: number_if(
-            ((g.header >> 22) % 2 == 0) & ((g.header >> 14) % 2 == 1),
-            17,
-        ),
-        other_clash: 0,
+        clash: clash(bits, 17, 0),
     }
 }
 
 fn any(f: Faults) -> bool
     ensures { λ r. ⌜ r ≡ found (firstOf f) ⌝ }
 {
-    ((f.first | f.second) | (f.third | f.fourth)) | ((f.clash != 0) | (f.other_clash != 0))
+    ((f.first | f.second) | (f.third | f.fourth)) | (f.clash != 0)
 }
 
 // A value is illegal or clashes; which one is asked only on refusal. The words come one by one: so it is inlined in both
@@ -193,28 +188,15 @@ fn unless_legal(at: usize, illegal: bool, next: Refusal) -> Refusal
     next
 }
 
-// A clash is at the command's first word; no clash has number 0.
-fn first_clash(f: Faults) -> Refusal
-    ensures { λ r. ⌜ r ≡ firstClash (f .clash) (f .«other_clash») ⌝ }
-{
-    if f.clash != 0 {
-        return Refusal {
-            number: f.clash,
-            word: 0,
-            bit: NO_BIT,
-        };
-    }
-    Refusal {
-        number: f.other_clash,
-        word: 0,
-        bit: NO_BIT,
-    }
-}
-
+// A clash is at the command's first word.
 fn first(f: Faults) -> Refusal
     ensures { λ r. ⌜ r ≡ firstOf f ⌝ }
 {
-    let clash = first_clash(f);
+    let clash = Refusal {
+        number: f.clash,
+        word: 0,
+        bit: NO_BIT,
+    };
     let fourth = unless_legal(3, f.fourth, clash);
     let third = unless_legal(2, f.third, fourth);
     let second = unless_legal(1, f.second, third);

@@ -3,7 +3,7 @@ use Rattle.faults.proofs.any.Statement.{statement}
 use Rattle.faults.proofs.any.Tie as tie
 
 returns : tie.Need-returns
-returns c = any-is (c .before .before .before .before .args .f)
+returns c = any-is (c .before .before .before .args .f)
 
 pub any-spec : {M : Type 1} → statement M
 any-spec = tie.close (tie.spec returns)
