@@ -32,15 +32,14 @@ use Rattle.command.specs.View.{sizeAt}
 use Rattle.table.proofs.Tables.{setting-is}
 use Rattle.list.specs.Effects.{idAt, CommandAt}
 use Rattle.list.proofs.Effects.{no-kind, is-group, is-single}
-use Rattle.list.proofs.Applying.{command-at}
-use Rattle.list.proofs.Position.{Position, position-start, position-end, AtCommand, after, at-command}
+use Rattle.list.proofs.Position.{Position, position-start, position-end, AtCommand, after, at-command, command-at}
 use Rattle.form.specs.declared.Draft.{Draft}
-use Rattle.form.specs.Numbers.{holds, numberOf}
-use Rattle.form.specs.Output.{longest, Output, emitChanged, CanEmitChanged}
+use Rattle.settings.specs.Numbers.{holds, numberOf}
+use Rattle.settings.specs.Output.{longest, Output, emitChanged, CanEmitChanged}
 use Rattle.form.specs.Drafts.{Drafted, outputOf, afterSetting, afterWork, afterCommand, CanWork, CanTake}
-use Rattle.form.proofs.Numbers.{holds-put, holds-other, holds-none, settingOf, setting-of, number-of}
+use Rattle.settings.proofs.Numbers.{holds-put, holds-other, holds-none, settingOf, setting-of, number-of}
 use Rattle.form.proofs.Copying.{read-words}
-use Rattle.form.proofs.Emitting.{SetAt, set-cong, sent-cong, LatestAt, Latest, Progress, emit-all}
+use Rattle.settings.proofs.Emitting.{SetAt, set-cong, sent-cong, LatestAt, Latest, Progress, emit-all}
 
 -- ---- what a command does
 

@@ -17,7 +17,7 @@ use Rattle.rules.specs.Answer.{acceptedAnswer, refuse, normalising, commandsOf,
 use Rattle.rules.proofs.Form.{form-fits}
 use Rattle.list.specs.declared.Walked.the-variants as walked
 use Rattle.list.specs.View.{walkedOf}
-use Rattle.list.proofs.Reading.{answer-refused, answer-short, answer-done}
+use Rattle.list.proofs.Answers.{answer-refused, answer-short, answer-done}
 
 -- a form fits where its list does
 pub form-room : (image l out : List ℕ) → parse image l ≡ accepted (commandsOf (parse image l)) → length l ≤ length out

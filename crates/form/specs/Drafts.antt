@@ -12,8 +12,8 @@ use Rattle.table.specs.Ids.{settingKind}
 use Rattle.command.specs.View.{sizeAt}
 use Rattle.list.specs.Effects.{idAt, CommandAt}
 use Rattle.form.specs.declared.Draft.{Draft}
-use Rattle.form.specs.Numbers.{numberOf}
-use Rattle.form.specs.Output.{longest, Output, emitChanged, CanEmitChanged}
+use Rattle.settings.specs.Numbers.{numberOf}
+use Rattle.settings.specs.Output.{longest, Output, emitChanged, CanEmitChanged}
 
 -- where the form stands, where each setting was last set, where its command last put out stands, and the buffer
 pub record Drafted : Type 0 where

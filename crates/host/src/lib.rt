@@ -30,7 +30,7 @@ pub extern "C" fn xp10_read(
 ) -> u32
     ensures { λ r. ⌜ record { verdict = r; image = now (image .exit); buffer = now (records .exit); answer = now (answer .exit) } ≡ callResult (reading (now (list .entry)) (now (image .entry)) (now (records .entry))) (now (answer .entry)) ⌝ }
 {
-    let a = list::read(list, image, records);
+    let a = reader::read(list, image, records);
     write_answer(a, answer);
     a.verdict
 }

@@ -19,8 +19,7 @@ use Rattle.table.specs.Tables.{more, rowAt}
 use Rattle.command.specs.View.{groupAt, sizeAt, OwnAt}
 use Rattle.table.proofs.Tables.{Known, known, keptId, leavesAs}
 use Rattle.command.proofs.Decoding.{group-words, size-known, size-group, size-single}
-use Rattle.list.specs.declared.Place.{Place}
-use Rattle.list.specs.Effects.{idAt, headerAt, commandAt, CommandAt, recordAt, Applied}
+use Rattle.list.specs.Effects.{idAt, headerAt, commandAt, CommandAt, recordAt}
 
 -- ---- the kinds of the set
 
@@ -147,12 +146,3 @@ module _ (l : List ℕ) (at : ℕ) (h : CommandAt l at) where
         record-is = rw w (ap₂ {C = List ℕ} (λ i m. i ∷ at ∷ m ∷ headerAt l at ∷ []) (k .own-id) (ap suc n ∙ sym s));
         image-is = λ image. rw (k .own-id) (by-kind (rowAt id .kind) (headerAt l at) _ image (k .leaves) w);
       }
-
--- a setting is applied: it gives no record
-pub applied-setting : (l : List ℕ) (at n written : ℕ) (image buffer image′ : List ℕ) → sizeAt l at ≡ n → recordAt l at ≡ [] → image′ ≡ apply (commandAt l at) image
-    → Applied l at written image buffer (record { at = at + n; written = written }) image′ buffer
-applied-setting l at n written image buffer image′ s r e = record {
-  place = ap₂ {C = Place} (λ m k. record { at = at + m; written = k }) (sym s) (sym (ap (λ (x : List ℕ). written + length x) r ∙ add-zero written));
-  image-is = e;
-  buffer-is = ap (sets buffer written) (sym r);
-}

@@ -1,5 +1,4 @@
 pub mod Steps
 pub mod Position
 pub mod Effects
-pub mod Applying
-pub mod Reading
+pub mod Answers

@@ -10,13 +10,15 @@ use Rattle.rules.specs.Word.{idOf, headerOf, firstWord}
 use Rattle.rules.specs.Command.{Command, wordsAll, commandSize}
 use Rattle.rules.specs.Walk.{accepted, parse}
 use Rattle.rules.specs.Valid.{Valid, AllValid}
+use Rattle.rules.specs.Table.{rowOf}
+use Rattle.rules.proofs.Rows.{row-small}
 use Rattle.rules.proofs.Valid.{valid-size, valid-taken}
 use Rattle.rules.proofs.Parse.{parse-accepted}
 use Rattle.rules.proofs.Form.{wordsAll-append}
 use Rattle.table.specs.Tables.{rowAt}
 use Rattle.command.specs.View.{sizeAt}
-use Rattle.table.proofs.Tables.{row-is}
-use Rattle.list.specs.Effects.{commandAt}
+use Rattle.table.proofs.Tables.{row-is, known-row}
+use Rattle.list.specs.Effects.{idAt, commandAt, CommandAt}
 
 -- the commands of a list before a position and from it on
 pub record Position (all : List Command) (l : List ℕ) (at : ℕ) : Type 0 where
@@ -108,3 +110,16 @@ module _ (all : List Command) (l : List ℕ) (at : ℕ) (s : Position all l at) 
 
     pub at-command : AtCommand all l at s
     at-command = by-rest (s .rest) refl (s .valid)
+
+-- a command stands at the position
+pub command-at : (all : List Command) (l : List ℕ) (at : ℕ) (s : Position all l at) → length l ≤ 4096 → AtCommand all l at s → CommandAt l at
+command-at all l at s few t =
+    let c : Command = t .command in
+    let small′ : idAt l at < 256 = omega (arith, t .id-is, row-small (c .row .id) (c .row) (t .valid .found)) in
+    record {
+      few = few;
+      start = omega (arith, t .inside);
+      small = small′;
+      known = known-row (idAt l at) small′ (c .row) (ap rowOf (t .id-is) ∙ t .valid .found) .small;
+      inside = omega (arith, t .inside, t .size-is);
+    }

@@ -1,16 +1,12 @@
 -- What the command at a position of an accepted list leaves.
 use Prim.Native.Nat.{ℕ, suc, _+_, _≤_, _<_}
-use mathlib.Core.Path.{_≡_}
 use mathlib.Core.List.{List, [], _∷_}
 use lib.ListN.{length, getD, take, drop}
-use lib.Seq.{sets}
 use Rattle.rules.specs.Word.{idOf, headerOf}
 use Rattle.rules.specs.Command.{Command, restSize}
-use Rattle.rules.specs.Image.{apply}
 use Rattle.rules.specs.Records.{records, recordWords}
 use Rattle.table.specs.Tables.{rowNumber, rowAt}
 use Rattle.command.specs.View.{sizeAt}
-use Rattle.list.specs.declared.Place.{Place}
 
 abbrev pub idAt : List ℕ → ℕ → ℕ
 idAt l at = idOf (getD l at 0)
@@ -38,14 +34,3 @@ pub record CommandAt (l : List ℕ) (at : ℕ) : Type 0 where
 -- the words of its record, none for a setting
 abbrev pub recordAt : List ℕ → ℕ → List ℕ
 recordAt l at = recordWords (records at (commandAt l at ∷ []))
-
--- the command can be applied to an image and a record buffer of which some words are written
-pub record Applies (l : List ℕ) (at written : ℕ) (image buffer : List ℕ) : Type 0 where
-  pub command : CommandAt l at
-  pub long : length image ≡ 256
-  pub room : written + length (recordAt l at) ≤ length buffer
-
-pub record Applied (l : List ℕ) (at written : ℕ) (image buffer : List ℕ) (p : Place) (image′ buffer′ : List ℕ) : Type 0 where
-  pub place : p ≡ record { at = at + sizeAt l at; written = written + length (recordAt l at) }
-  pub image-is : image′ ≡ apply (commandAt l at) image
-  pub buffer-is : buffer′ ≡ sets buffer written (recordAt l at)

@@ -14,7 +14,7 @@ use Rattle.rules.proofs.Parse.{parse-accepted}
 use Rattle.rules.proofs.Pci.{pairs-length}
 use Rattle.list.specs.declared.Walked.the-variants as walked
 use Rattle.list.specs.View.{walkedOf}
-use Rattle.list.proofs.Reading.{counts, answer-refused, answer-short, answer-done}
+use Rattle.list.proofs.Answers.{counts, answer-refused, answer-short, answer-done}
 
 module _ (l image buffer : List ℕ) where
   pub to-refused : (f : Refusal) → walkedOf (parse image l) ≡ walked.Refused f → refuse f image buffer ≡ toPci l image buffer

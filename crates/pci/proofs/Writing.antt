@@ -26,8 +26,7 @@ use Rattle.command.specs.View.{groupAt, sizeAt}
 use Rattle.command.proofs.Decoding.{size-known, size-group, size-single}
 use Rattle.list.specs.Effects.{commandAt, CommandAt}
 use Rattle.list.proofs.Effects.{own-at}
-use Rattle.list.proofs.Position.{Position, position-start, position-end, AtCommand, after, at-command}
-use Rattle.list.proofs.Applying.{command-at}
+use Rattle.list.proofs.Position.{Position, position-start, position-end, AtCommand, after, at-command, command-at}
 
 -- ---- of some words
 

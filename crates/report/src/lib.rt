@@ -196,7 +196,7 @@ fn put_list(
     requires { ⌜ n ≤ length (now words) ⌝ }
     ensures { λ r. ⌜ Prints (reading (take n (now (words .entry))) (now (image .entry)) (now (records .entry))) (now (image .exit)) (now (records .exit)) (now (text .entry)) (now (text .exit)) r ⌝ }
 {
-    let a = list::read(&words[..n], image, records);
+    let a = reader::read(&words[..n], image, records);
     let k = a.words;
     put_answer(text, a, &records[..k])
 }

@@ -96,7 +96,7 @@ fn add(tally: &mut [u32; TALLY], i: usize) {
 // A function on a list, which the last of them takes as pairs.
 fn call(function: usize, list: &[u32], image: &mut [u32], buffer: &mut [u32]) -> Answer {
     match function {
-        READER => list::read(list, image, buffer),
+        READER => reader::read(list, image, buffer),
         NORMALISER => form::normalise(list, image, buffer),
         TO_PCI => pci::to_pci(list, image, buffer),
         _ => pci::from_pci(list, image, buffer),

@@ -1,7 +1,7 @@
 use native.Mathlib.Omega.{arith}
 use mathlib.Core.Path.{ap}
 use Rattle.list.proofs.Effects.{own-at}
-use Rattle.form.specs.Output.{Output}
+use Rattle.settings.specs.Output.{Output}
 use Rattle.form.proofs.Forming.{worked}
 use borrow.Author.Needs.{needs}
 use Rattle.form.proofs.emit_work.Statement.{statement}

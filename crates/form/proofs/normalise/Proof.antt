@@ -1,6 +1,6 @@
 use mathlib.Core.Path.{sym, _∙_}
 use borrow.Author.Needs.{needs}
-use Rattle.list.proofs.Reading.{counts}
+use Rattle.list.proofs.Answers.{counts}
 use Rattle.form.proofs.Normalising.{normalise-refused, normalise-short, normalise-done}
 use Rattle.form.proofs.normalise.Statement.{statement}
 use Rattle.form.proofs.normalise.Tie as tie

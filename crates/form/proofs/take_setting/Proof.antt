@@ -1,5 +1,5 @@
 use mathlib.Core.Path.{refl}
-use Rattle.form.proofs.Numbers.{bit-of}
+use Rattle.settings.proofs.Numbers.{bit-of}
 use borrow.Author.Needs.{needs}
 use Rattle.form.proofs.take_setting.Statement.{statement}
 use Rattle.form.proofs.take_setting.Tie as tie

@@ -1,6 +1,6 @@
 use native.Mathlib.Omega.{arith}
 use mathlib.Core.Path.{sym, _∙_}
-use Rattle.list.proofs.Reading.{counts}
+use Rattle.list.proofs.Answers.{counts}
 use Rattle.pci.proofs.Answering.{to-refused, to-short, to-done}
 use borrow.Author.Needs.{needs}
 use Rattle.pci.proofs.to_pci.Statement.{statement}

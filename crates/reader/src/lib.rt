@@ -1,0 +1,167 @@
+// The reader: the image and the records that an accepted list leaves.
+//
+// The list is checked before, and nothing is checked again.
+use list::Walked;
+use rules::Answer;
+use rules::NO_BIT;
+use rules::Refusal;
+use table::Settings;
+ghost use mathlib.Core.Path.{_≡_};
+ghost use Prim.Native.Nat.{_+_, _*_, _≤_};
+ghost use lib.ListN.{length};
+ghost use lib.Seq.{sets};
+ghost use Rattle.rules.specs.Walk.{parse, accepted};
+ghost use Rattle.rules.specs.Image.{apply, final};
+ghost use Rattle.rules.specs.Records.{records, recordWords};
+ghost use Rattle.rules.specs.Answer.{reading, commandsOf};
+ghost use Rattle.table.specs.Ids.{settingKind};
+ghost use Rattle.command.specs.View.{sizeAt};
+ghost use Rattle.list.specs.Effects.{idAt, commandAt, CommandAt, recordAt};
+ghost use Rattle.reader.specs.Applied.{Applies, Applied};
+
+// Where it stands: the position, and the words of the records written so far.
+pub struct Place {
+    pub at: usize,
+    pub written: usize,
+}
+
+// A setting of four words goes to the image.
+fn set_group(list: &[u32], image: &mut [u32], at: usize)
+    requires { ⌜ CommandAt (now list) at × (settingKind (idAt (now list) at) ≡ 2) × (length (now image) ≡ 256) ⌝ }
+    ensures { λ _. ⌜ now (image .exit) ≡ apply (commandAt (now (list .entry)) at) (now (image .entry)) ⌝ }
+{
+    let g = command::group_at(list, at);
+    let id = words::id_of(words::fetch(list, at)) as usize;
+    words::put4(image, id, g.header, g.second, g.third, g.fourth);
+}
+
+// A setting of one word does.
+fn set_single(list: &[u32], image: &mut [u32], at: usize)
+    requires { ⌜ CommandAt (now list) at × (settingKind (idAt (now list) at) ≡ 1) × (length (now image) ≡ 256) ⌝ }
+    ensures { λ _. ⌜ now (image .exit) ≡ apply (commandAt (now (list .entry)) at) (now (image .entry)) ⌝ }
+{
+    let w = words::fetch(list, at);
+    let id = words::id_of(w) as usize;
+    image[id] = words::header_of(w);
+}
+
+// What a work command leaves in the image.
+fn leave_header(list: &[u32], image: &mut [u32], at: usize)
+    requires { ⌜ CommandAt (now list) at × (settingKind (idAt (now list) at) ≡ 0) × (length (now image) ≡ 256) ⌝ }
+    ensures { λ _. ⌜ now (image .exit) ≡ apply (commandAt (now (list .entry)) at) (now (image .entry)) ⌝ }
+{
+    let w = words::fetch(list, at);
+    let id = words::id_of(w);
+    let kept = (1 < id) & (id < 0x40);
+    if !kept {
+        return;
+    }
+    if table::is_begin(id) {
+        image[0x08] = words::header_of(w);
+        return;
+    }
+    image[id as usize] = words::header_of(w);
+}
+
+// A work command gives a record.
+fn write_record(list: &[u32], records: &mut [u32], at: usize, written: usize, words: usize)
+    requires { ⌜ CommandAt (now list) at × (settingKind (idAt (now list) at) ≡ 0) × (words ≡ sizeAt (now list) at) × (written + 4 ≤ length (now records)) ⌝ }
+    ensures { λ _. ⌜ now (records .exit) ≡ sets (now (records .entry)) written (recordAt (now (list .entry)) at) ⌝ }
+{
+    let w = words::fetch(list, at);
+    words::put4(
+        records,
+        written,
+        words::id_of(w) as u32,
+        at as u32,
+        words as u32,
+        words::header_of(w),
+    );
+}
+
+fn apply_work(
+    list: &[u32],
+    image: &mut [u32],
+    records: &mut [u32],
+    at: usize,
+    written: usize,
+) -> Place
+    requires { ⌜ Applies (now list) at written (now image) (now records) × (settingKind (idAt (now list) at) ≡ 0) ⌝ }
+    ensures { λ r. ⌜ Applied (now (list .entry)) at written (now (image .entry)) (now (records .entry)) r (now (image .exit)) (now (records .exit)) ⌝ }
+{
+    let words = command::command_size(list, at);
+    leave_header(list, image, at);
+    write_record(list, records, at, written, words);
+    Place {
+        at: at + words,
+        written: written + 4,
+    }
+}
+
+// One command of an accepted list.
+fn apply_command(
+    list: &[u32],
+    image: &mut [u32],
+    records: &mut [u32],
+    at: usize,
+    written: usize,
+) -> Place
+    requires { ⌜ Applies (now list) at written (now image) (now records) ⌝ }
+    ensures { λ r. ⌜ Applied (now (list .entry)) at written (now (image .entry)) (now (records .entry)) r (now (image .exit)) (now (records .exit)) ⌝ }
+{
+    let kind = Settings::kind(words::id_of(words::fetch(list, at)));
+    if kind == Settings::GROUP {
+        set_group(list, image, at);
+        return Place {
+            at: at + 4,
+            written,
+        };
+    }
+    if kind == Settings::SINGLE {
+        set_single(list, image, at);
+        return Place {
+            at: at + 1,
+            written,
+        };
+    }
+    apply_work(list, image, records, at, written)
+}
+
+// The image and the records of an accepted list.
+fn apply_list(list: &[u32], image: &mut [u32], buffer: &mut [u32])
+    requires { ⌜ (parse (now image) (now list) ≡ accepted (commandsOf (parse (now image) (now list)))) × (4 * length (records 0 (commandsOf (parse (now image) (now list)))) ≤ length (now buffer)) ⌝ }
+    ensures { λ _. ⌜ (now (image .exit) ≡ final (now (image .entry)) (commandsOf (parse (now (image .entry)) (now (list .entry))))) × (now (buffer .exit) ≡ sets (now (buffer .entry)) 0 (recordWords (records 0 (commandsOf (parse (now (image .entry)) (now (list .entry))))))) ⌝ }
+{
+    let mut p = Place { at: 0, written: 0 };
+    while p.at < list.len() {
+        p = apply_command(list, image, buffer, p.at, p.written);
+    }
+}
+
+// The reader: from a list, a register image and a record buffer to a verdict, the new image and the records of work.
+pub fn read(list: &[u32], image: &mut [u32], records: &mut [u32]) -> Answer
+    ensures { λ r. ⌜ record { answer = r; image = now (image .exit); buffer = now (records .exit) } ≡ reading (now (list .entry)) (now (image .entry)) (now (records .entry)) ⌝ }
+{
+    let w = list::check(list, image);
+    match w {
+        Walked::Refused(f) => list::refuse(f),
+        Walked::Accepted(commands, count) => {
+            if records.len() / 4 < count {
+                return list::refuse(Refusal {
+                    number: 11,
+                    word: list.len(),
+                    bit: NO_BIT,
+                });
+            }
+            apply_list(list, image, records);
+            Answer {
+                verdict: 0,
+                position: list.len(),
+                commands,
+                records: count,
+                words: count * 4,
+                bit: NO_BIT,
+            }
+        }
+    }
+}
