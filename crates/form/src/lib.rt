@@ -4,8 +4,6 @@
 // crates/settings has them. A form is measured by writing it to an empty part of the buffer.
 use list::Walked;
 use rules::Answer;
-use rules::NO_BIT;
-use rules::Refusal;
 use table::Settings;
 ghost use mathlib.Core.Path.{_≡_};
 ghost use Prim.Native.Nat.{_+_, _-_, _^_, _<_, _≤_, min};
@@ -157,21 +155,10 @@ pub fn normalise(list: &[u32], image: &[u32], out: &mut [u32]) -> Answer
         Walked::Refused(f) => list::refuse(f),
         Walked::Accepted(commands, records) => {
             if too_small(list, image, out) {
-                return list::refuse(Refusal {
-                    number: 11,
-                    word: list.len(),
-                    bit: NO_BIT,
-                });
+                return list::no_room(list.len());
             }
             let words = form(list, image, out);
-            Answer {
-                verdict: 0,
-                position: list.len(),
-                commands,
-                records,
-                words,
-                bit: NO_BIT,
-            }
+            list::accepted(list.len(), commands, records, words)
         }
     }
 }

@@ -10,8 +10,10 @@ ghost use mathlib.Core.List.{List};
 ghost use Prim.Native.Nat.{ℕ, _+_, _<_};
 ghost use lib.ListN.{length};
 ghost use Rattle.rules.specs.Walk.{walk, start, parse};
-ghost use Rattle.rules.specs.Answer.{refusedAnswer};
+ghost use Rattle.rules.specs.Values.{refusal};
+ghost use Rattle.rules.specs.Answer.{refusedAnswer, acceptedAnswer};
 ghost use Rattle.table.specs.Tables.{rowTable};
+ghost use Rattle.list.specs.declared.Walked.the-variants as walked;
 ghost use Rattle.list.specs.View.{origin, after, taken, stepAt, walkedOf, Counted, Inside, InsideAfter};
 
 // Where the walk stands: the position and the counts after the commands passed, and whether the last was a surface base.
@@ -134,23 +136,51 @@ pub fn refuse(f: Refusal) -> Answer
     }
 }
 
+// The answer of an accepted list, with what was written.
+pub fn accepted(position: usize, commands: usize, records: usize, words: usize) -> Answer
+    ensures { λ r. ⌜ r ≡ acceptedAnswer position commands records words ⌝ }
+{
+    Answer {
+        verdict: 0,
+        position,
+        commands,
+        records,
+        words,
+        bit: NO_BIT,
+    }
+}
+
+// Refusal 11, at the list's length: what is to be written does not fit.
+pub fn no_room(words: usize) -> Answer
+    ensures { λ r. ⌜ r ≡ refusedAnswer (refusal 11 words) ⌝ }
+{
+    refuse(Refusal {
+        number: 11,
+        word: words,
+        bit: NO_BIT,
+    })
+}
+
+// A refusal of the whole list: 1 or 2.
+pub fn refused(number: u32, word: usize) -> Walked
+    ensures { λ r. ⌜ r ≡ walked.Refused (refusal number word) ⌝ }
+{
+    Walked::Refused(Refusal {
+        number,
+        word,
+        bit: NO_BIT,
+    })
+}
+
 // The verdict on a list, before anything is written: refusals 1 to 10, or the counts.
 pub fn check(list: &[u32], image: &[u32]) -> Walked
     ensures { λ r. ⌜ r ≡ walkedOf (parse (now (image .entry)) (now (list .entry))) ⌝ }
 {
     if 4096 < list.len() {
-        return Walked::Refused(Refusal {
-            number: 1,
-            word: 4096,
-            bit: NO_BIT,
-        });
+        return refused(1, 4096);
     }
     if image.len() != 256 {
-        return Walked::Refused(Refusal {
-            number: 2,
-            word: 0,
-            bit: NO_BIT,
-        });
+        return refused(2, 0);
     }
     let rows = table::row_table();
     walk(&rows, list)

@@ -6,8 +6,6 @@ use list::Cursor;
 use list::Step;
 use list::Walked;
 use rules::Answer;
-use rules::NO_BIT;
-use rules::Refusal;
 ghost use mathlib.Core.Path.{_≡_};
 ghost use mathlib.Core.Bool.{true, false};
 ghost use mathlib.Core.List.{List};
@@ -117,21 +115,10 @@ pub fn to_pci(list: &[u32], image: &[u32], pairs: &mut [u32]) -> Answer
         Walked::Refused(f) => list::refuse(f),
         Walked::Accepted(commands, records) => {
             if pairs.len() / 2 < list.len() {
-                return list::refuse(Refusal {
-                    number: 11,
-                    word: list.len(),
-                    bit: NO_BIT,
-                });
+                return list::no_room(list.len());
             }
             write_list(list, image, pairs);
-            Answer {
-                verdict: 0,
-                position: list.len(),
-                commands,
-                records,
-                words: 2 * list.len(),
-                bit: NO_BIT,
-            }
+            list::accepted(list.len(), commands, records, 2 * list.len())
         }
     }
 }
@@ -221,18 +208,10 @@ fn check(pairs: &[u32], image: &[u32]) -> Walked
     ensures { λ r. ⌜ r ≡ walkedOf (parsePairs (now (image .entry)) (now (pairs .entry))) ⌝ }
 {
     if 4096 < pairs.len() / 2 {
-        return Walked::Refused(Refusal {
-            number: 1,
-            word: 4096,
-            bit: NO_BIT,
-        });
+        return list::refused(1, 4096);
     }
     if image.len() != 256 {
-        return Walked::Refused(Refusal {
-            number: 2,
-            word: 0,
-            bit: NO_BIT,
-        });
+        return list::refused(2, 0);
     }
     let rows = table::row_table();
     walk(&rows, pairs)
@@ -260,21 +239,10 @@ pub fn from_pci(pairs: &[u32], image: &[u32], list: &mut [u32]) -> Answer
         Walked::Refused(f) => list::refuse(f),
         Walked::Accepted(commands, records) => {
             if list.len() < words {
-                return list::refuse(Refusal {
-                    number: 11,
-                    word: words,
-                    bit: NO_BIT,
-                });
+                return list::no_room(words);
             }
             write_values(pairs, list);
-            Answer {
-                verdict: 0,
-                position: words,
-                commands,
-                records,
-                words,
-                bit: NO_BIT,
-            }
+            list::accepted(words, commands, records, words)
         }
     }
 }

@@ -3,8 +3,6 @@
 // The list is checked before, and nothing is checked again.
 use list::Walked;
 use rules::Answer;
-use rules::NO_BIT;
-use rules::Refusal;
 use table::Settings;
 ghost use mathlib.Core.Path.{_≡_};
 ghost use Prim.Native.Nat.{_+_, _*_, _≤_};
@@ -147,21 +145,10 @@ pub fn read(list: &[u32], image: &mut [u32], records: &mut [u32]) -> Answer
         Walked::Refused(f) => list::refuse(f),
         Walked::Accepted(commands, count) => {
             if records.len() / 4 < count {
-                return list::refuse(Refusal {
-                    number: 11,
-                    word: list.len(),
-                    bit: NO_BIT,
-                });
+                return list::no_room(list.len());
             }
             apply_list(list, image, records);
-            Answer {
-                verdict: 0,
-                position: list.len(),
-                commands,
-                records: count,
-                words: count * 4,
-                bit: NO_BIT,
-            }
+            list::accepted(list.len(), commands, count, count * 4)
         }
     }
 }

@@ -10,14 +10,14 @@ use Rattle.pci.proofs.check.Tie as tie
 returns : tie.Need-returns
 unfolding parsePairs
 returns c =
-    let n = length (values (c .before .before .before .args .pairs .now)) in
-    rw (lt-ltb 4096 n (omega (arith, c .if1 .taken, pair-count (c .before .before .before .args .pairs .now))))
+    let n = length (values (c .before .before .before .before .args .pairs .now)) in
+    rw (lt-ltb 4096 n (omega (arith, c .before .if1 .taken, pair-count (c .before .before .before .before .args .pairs .now)))) (c .refused .ensures)
 
 returns-2 : tie.Need-returns-2
 unfolding parsePairs
 returns-2 c =
-    let n = length (values (c .before .before .before .before .args .pairs .now)) in
-    rw (le-ltb 4096 n (omega (arith, c .before .if1 .left, pair-count (c .before .before .before .before .args .pairs .now))), ne-eqb _ _ (c .if2 .taken))
+    let n = length (values (c .before .before .before .before .before .args .pairs .now)) in
+    rw (le-ltb 4096 n (omega (arith, c .before .before .if1 .left, pair-count (c .before .before .before .before .before .args .pairs .now))), ne-eqb _ _ (c .before .if2 .taken)) (c .refused2 .ensures)
 
 returns-3 : tie.Need-returns-3
 unfolding parsePairs
@@ -27,4 +27,4 @@ returns-3 c =
 
 pub check-spec : {M : Type 1} → statement M
 check-spec = tie.close
-    (tie.spec returns returns-2 (λ c κs. search needs) (λ c κs. search needs) returns-3)
+    (tie.spec (λ c κs. search needs) returns (λ c κs. search needs) returns-2 (λ c κs. search needs) (λ c κs. search needs) returns-3)
