@@ -135,7 +135,8 @@ pub fn decode_single(list: &[u32], at: usize, id: u8, row: u8) -> Decoded
     single_command(row)
 }
 
-// A command of four words and its payload: refusals 5, 6, 7, 15 to 19 and 9. Only where there is payload is the list's end looked for again.
+// A command of four words and its payload: refusals 5, 6, 7, 15 to 19 and 9. Only where there is payload is the list's end
+// looked for again.
 pub fn decode_group(list: &[u32], at: usize, id: u8, row: u8) -> Decoded
     requires { ⌜ KnownAt (now list) at id row × (groupId id ≡ true) ⌝ }
     ensures { λ r. ⌜ r ≡ decodedAt (now (list .entry)) at ⌝ }

@@ -31,8 +31,7 @@ refusalOf a = record { number = a .verdict; word = a .position; bit = a .bit }
 abbrev pub refuse : Refusal → List ℕ → List ℕ → Outcome
 refuse f image buffer = record { answer = refusedAnswer f; image = image; buffer = buffer }
 
--- "With 6, the answer now also gives the number of the lowest undefined bit set in that word; every other verdict gives 32
--- there."
+-- with 6 the bit is one of the word's, and "every other verdict gives 32 there"
 abbrev pub tellsBit : Answer → Bool
 tellsBit a = cond (eqb (a .verdict) 6) (ltb (a .bit) 32) (eqb (a .bit) 32)
 
