@@ -8,6 +8,7 @@ use mathlib.Core.Bool.{true}
 use mathlib.Core.Logic.{_↔_}
 use mathlib.Core.List.{List, _++_}
 use lib.ListN.{length, getD, length-append}
+use Rattle.rules.specs.Word.{bits}
 use Rattle.rules.specs.Command.{Command, wordsAll}
 use Rattle.rules.specs.Walk.{parse}
 use Rattle.rules.specs.Valid.{Accepted}
@@ -54,6 +55,23 @@ to-pci-tells-bit = laws.to-pci-tells
 
 pub from-pci-tells-bit : (ps image buffer : List ℕ) → tellsBit (fromPci ps image buffer .answer) ≡ true
 from-pci-tells-bit = laws.from-pci-tells
+
+-- ".. set in that word": the bit told with 6 is set in the word of the list at the position
+pub reader-bit-is-set : (ws image buffer : List ℕ) → reading ws image buffer .answer .verdict ≡ 6
+    → bits (getD ws (reading ws image buffer .answer .position) 0) (reading ws image buffer .answer .bit) 1 ≡ 1
+reader-bit-is-set = laws.reading-set
+
+pub normaliser-bit-is-set : (ws image buffer : List ℕ) → normalising ws image buffer .answer .verdict ≡ 6
+    → bits (getD ws (normalising ws image buffer .answer .position) 0) (normalising ws image buffer .answer .bit) 1 ≡ 1
+normaliser-bit-is-set = laws.normalising-set
+
+pub to-pci-bit-is-set : (ws image buffer : List ℕ) → toPci ws image buffer .answer .verdict ≡ 6
+    → bits (getD ws (toPci ws image buffer .answer .position) 0) (toPci ws image buffer .answer .bit) 1 ≡ 1
+to-pci-bit-is-set = laws.to-pci-set
+
+pub from-pci-bit-is-set : (ps image buffer : List ℕ) → fromPci ps image buffer .answer .verdict ≡ 6
+    → bits (getD (values ps) (fromPci ps image buffer .answer .position) 0) (fromPci ps image buffer .answer .bit) 1 ≡ 1
+from-pci-bit-is-set = laws.from-pci-set
 
 -- ---- Demand 2
 

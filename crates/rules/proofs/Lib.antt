@@ -6,6 +6,7 @@ pub mod Parse
 pub mod Differing
 pub mod Form
 pub mod Numbers
+pub mod Bits
 pub mod Verdict
 pub mod Records
 pub mod Outcomes

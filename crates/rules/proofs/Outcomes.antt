@@ -5,9 +5,11 @@ use mathlib.Core.Path.{_≡_, refl, ap, sym, _∙_}
 use mathlib.Core.Bool.{Bool, true, false}
 use mathlib.Core.Logic.{_↔_}
 use mathlib.Core.List.{List, [], _∷_}
-use lib.Dec.{ltb}
+use lib.Dec.{eqb, ltb}
+use borrow.Author.Tests.{eqb-false}
 use lib.ListN.{length, getD}
 use lib.Seq.{getD-set-other}
+use Rattle.rules.specs.Word.{bits}
 use Rattle.rules.specs.Table.{Kind, setting, plain, keeps, begins}
 use Rattle.rules.specs.Command.{Command, wordsAll}
 use Rattle.rules.specs.Walk.{Parsed, refused, accepted, parse}
@@ -19,6 +21,7 @@ use Rattle.rules.specs.Answer.{Outcome, refusalOf, tellsBit, refuse, acc
 use Rattle.rules.specs.Pci.{pairsAll, values, parsePairs, toPci, fromPci}
 use Rattle.rules.specs.Valid.{AllValid}
 use Rattle.rules.proofs.Numbers.{RefusesList, parse-refuses}
+use Rattle.rules.proofs.Bits.{SetParsed, other, parse-set, pairs-set}
 use Rattle.rules.proofs.Pci.{pairs-refuses}
 use Rattle.rules.proofs.Parse.{parse-accepted}
 use Rattle.rules.proofs.Differing.{sets-outside}
@@ -101,6 +104,38 @@ to-pci-tells ws image buffer = write-tells pairsAll ws image buffer (parse image
 pub from-pci-tells : (ps image buffer : List ℕ) → Tells (fromPci ps image buffer)
 unfolding fromPci
 from-pci-tells ps image buffer = write-tells (λ cs. values ps) (values ps) image buffer (parsePairs image ps) (pairs-refuses image ps)
+
+-- with 6 it is set in the word of the list at the position
+abbrev BitSet : List ℕ → Outcome → Type 0
+BitSet l o = o .answer .verdict ≡ 6 → bits (getD l (o .answer .position) 0) (o .answer .bit) 1 ≡ 1
+
+fitting-set : (small : Bool) (ws image buffer l : List ℕ) (o : Outcome) → eqb (o .answer .verdict) 6 ≡ false → BitSet l (fitting small ws image buffer o)
+fitting-set true ws image buffer l o e = other l 11 (length ws) refl
+fitting-set false ws image buffer l o e = λ six. absurd (eqb-false _ 6 e six)
+
+read-set : (ws image buffer l : List ℕ) (x : Parsed) → SetParsed l x → BitSet l (readParsed ws image buffer x)
+read-set ws image buffer l (refused f) s = s
+read-set ws image buffer l (accepted cs) s = fitting-set (ltb (room buffer) (length (records 0 cs))) ws image buffer l _ refl
+
+write-set : (made : List Command → List ℕ) (ws image buffer l : List ℕ) (x : Parsed) → SetParsed l x → BitSet l (writeParsed made ws image buffer x)
+write-set made ws image buffer l (refused f) s = s
+write-set made ws image buffer l (accepted cs) s = fitting-set (ltb (length buffer) (length (made cs))) ws image buffer l _ refl
+
+pub reading-set : (ws image buffer : List ℕ) → BitSet ws (reading ws image buffer)
+unfolding reading
+reading-set ws image buffer = read-set ws image buffer ws (parse image ws) (parse-set image ws)
+
+pub normalising-set : (ws image buffer : List ℕ) → BitSet ws (normalising ws image buffer)
+unfolding normalising
+normalising-set ws image buffer = write-set (λ cs. wordsAll (form image cs)) ws image buffer ws (parse image ws) (parse-set image ws)
+
+pub to-pci-set : (ws image buffer : List ℕ) → BitSet ws (toPci ws image buffer)
+unfolding toPci
+to-pci-set ws image buffer = write-set pairsAll ws image buffer ws (parse image ws) (parse-set image ws)
+
+pub from-pci-set : (ps image buffer : List ℕ) → BitSet (values ps) (fromPci ps image buffer)
+unfolding fromPci
+from-pci-set ps image buffer = write-set (λ cs. values ps) (values ps) image buffer (values ps) (parsePairs image ps) (pairs-set image ps)
 
 -- ---- words that no command sets
 
