@@ -60,7 +60,7 @@ pub extern "C" fn xp10_to_pci(
 ) -> u32
     ensures { λ r. ⌜ record { verdict = r; image = now (image .entry); buffer = now (pairs .exit); answer = now (answer .exit) } ≡ callResult (toPci (now (list .entry)) (now (image .entry)) (now (pairs .entry))) (now (answer .entry)) ⌝ }
 {
-    let a = pci::to_pci(list, image, pairs);
+    let a = pci_writer::to_pci(list, image, pairs);
     write_answer(a, answer);
     a.verdict
 }
@@ -75,7 +75,7 @@ pub extern "C" fn xp10_from_pci(
 ) -> u32
     ensures { λ r. ⌜ record { verdict = r; image = now (image .entry); buffer = now (list .exit); answer = now (answer .exit) } ≡ callResult (fromPci (now (pairs .entry)) (now (image .entry)) (now (list .entry))) (now (answer .entry)) ⌝ }
 {
-    let a = pci::from_pci(pairs, image, list);
+    let a = pci_reader::from_pci(pairs, image, list);
     write_answer(a, answer);
     a.verdict
 }

@@ -98,8 +98,8 @@ fn call(function: usize, list: &[u32], image: &mut [u32], buffer: &mut [u32]) ->
     match function {
         READER => reader::read(list, image, buffer),
         NORMALISER => form::normalise(list, image, buffer),
-        TO_PCI => pci::to_pci(list, image, buffer),
-        _ => pci::from_pci(list, image, buffer),
+        TO_PCI => pci_writer::to_pci(list, image, buffer),
+        _ => pci_reader::from_pci(list, image, buffer),
     }
 }
 

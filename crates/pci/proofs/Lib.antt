@@ -1,3 +1,0 @@
-pub mod Writing
-pub mod Answering
-pub mod Meeting

@@ -1,0 +1,143 @@
+// The list that writes over PCI carry (document 02, Ticket 1).
+//
+// A pair is two words of a buffer, address first. Pair `at` carries word `at` of the list.
+use command::Decoded;
+use list::Cursor;
+use list::Step;
+use list::Walked;
+use rules::Answer;
+ghost use mathlib.Core.Path.{_≡_};
+ghost use mathlib.Core.Bool.{true, false};
+ghost use mathlib.Core.List.{List};
+ghost use Prim.Native.Nat.{ℕ, _<_, _≤_};
+ghost use lib.ListN.{length};
+ghost use lib.Seq.{sets};
+ghost use Rattle.rules.specs.Walk.{walk, start};
+ghost use Rattle.rules.specs.Pci.{values, misplaced, outside, unless, parsePairs, fromPci};
+ghost use Rattle.table.specs.Ids.{groupId};
+ghost use Rattle.table.specs.Tables.{rowTable};
+ghost use Rattle.command.specs.View.{KnownAt};
+ghost use Rattle.list.specs.View.{walkedOf, Counted};
+ghost use Rattle.pci_reader.specs.View.{Met, Stepped};
+
+// A command of one word. Where a pair is out of place, here and below, any refusal will do: 13 or 14 comes before it.
+fn decode_single(pairs: &[u32], at: usize, id: u8, row: u8) -> Decoded
+    requires { ⌜ KnownAt (values (now pairs)) at id row × (groupId id ≡ false) ⌝ }
+    ensures { λ r. ⌜ Met (now (pairs .entry)) at r ⌝ }
+{
+    let m = table::masks_of(row);
+    let header = words::header_of(places::value_at(pairs, at));
+    let undefined = faults::undefined(header, m.header);
+    if (places::address_at(pairs, at) != places::address(id, 0)) | undefined {
+        return command::refused_fault(at, faults::first_fault(row, id, header, 0, 0, 0));
+    }
+    command::single_command(row)
+}
+
+// A command of four words and its payload.
+fn decode_group(pairs: &[u32], at: usize, id: u8, row: u8) -> Decoded
+    requires { ⌜ KnownAt (values (now pairs)) at id row × (groupId id ≡ true) ⌝ }
+    ensures { λ r. ⌜ Met (now (pairs .entry)) at r ⌝ }
+{
+    if pairs.len() / 2 - at < 4 {
+        return command::refused(5, at);
+    }
+    let g = places::group_at(pairs, at);
+    if !places::group_placed(pairs, at, id) | faults::undefined_bits(row, g) {
+        return command::refused_fault(
+            at,
+            faults::first_fault(row, id, g.header, g.second, g.third, g.fourth),
+        );
+    }
+    if faults::bad_values(id, g.header, g.second, g.third, g.fourth) {
+        return command::refused_fault(
+            at,
+            faults::first_fault(row, id, g.header, g.second, g.third, g.fourth),
+        );
+    }
+    let more = command::payload(id, g);
+    if 0 < more {
+        if !places::payload_placed(pairs, at + 4, more, id) {
+            return command::refused(9, at);
+        }
+        return command::group_command(4 + more, row);
+    }
+    command::group_command(4, row)
+}
+
+// One command: its refusal, or the cursor after it.
+fn step(rows: &[u8; 256], pairs: &[u32], c: Cursor) -> Step
+    requires { ⌜ Counted c × (c .at < length (values (now pairs))) × (now rows ≡ rowTable) ⌝ }
+    ensures { λ r. ⌜ Stepped (now (pairs .entry)) c r ⌝ }
+{
+    let id = words::id_of(places::value_at(pairs, c.at));
+    let row = rows[id as usize];
+    if table::UNKNOWN <= row {
+        return c.take(command::refused(command::unknown(id), c.at));
+    }
+    if (0x40 <= id) | (row == table::BEGIN) {
+        return c.take(decode_group(pairs, c.at, id, row));
+    }
+    c.take(decode_single(pairs, c.at, id, row))
+}
+
+// The first pass: all pairs are checked, and nothing is written.
+fn walk(rows: &[u8; 256], pairs: &[u32]) -> Walked
+    requires { ⌜ now rows ≡ rowTable ⌝ }
+    ensures { λ r. ⌜ ((image : List ℕ) → r ≡ walkedOf (unless (misplaced outside 0 0 (now (pairs .entry))) (walk (start image) 0 0 (values (now (pairs .entry)))))) ⌝ }
+{
+    let n = pairs.len() / 2;
+    let mut c = Cursor::start();
+    while c.at < n {
+        let s = step(rows, pairs, c);
+        match s {
+            Step::Refused(f) => return Walked::Refused(places::refuse_pairs(pairs, c.at, f)),
+            Step::On(next) => c = next,
+        }
+    }
+    Walked::Accepted(c.commands, c.records)
+}
+
+// The verdict on pairs, before anything is written: refusals 1, 2, 13, 14 and 3 to 10, or the counts.
+fn check(pairs: &[u32], image: &[u32]) -> Walked
+    ensures { λ r. ⌜ r ≡ walkedOf (parsePairs (now (image .entry)) (now (pairs .entry))) ⌝ }
+{
+    if 4096 < pairs.len() / 2 {
+        return list::refused(1, 4096);
+    }
+    if image.len() != 256 {
+        return list::refused(2, 0);
+    }
+    let rows = table::row_table();
+    walk(&rows, pairs)
+}
+
+// The list that pairs carry.
+fn write_values(pairs: &[u32], list: &mut [u32])
+    requires { ⌜ length (values (now pairs)) ≤ length (now list) ⌝ }
+    ensures { λ _. ⌜ now (list .exit) ≡ sets (now (list .entry)) 0 (values (now (pairs .entry))) ⌝ }
+{
+    let mut i: usize = 0;
+    while i < pairs.len() / 2 {
+        list[i] = places::value_at(pairs, i);
+        i += 1;
+    }
+}
+
+// From writes over PCI and a register image to the list that they carry.
+pub fn from_pci(pairs: &[u32], image: &[u32], list: &mut [u32]) -> Answer
+    ensures { λ r. ⌜ record { answer = r; image = now (image .entry); buffer = now (list .exit) } ≡ fromPci (now (pairs .entry)) (now (image .entry)) (now (list .entry)) ⌝ }
+{
+    let words = pairs.len() / 2;
+    let w = check(pairs, image);
+    match w {
+        Walked::Refused(f) => list::refuse(f),
+        Walked::Accepted(commands, records) => {
+            if list.len() < words {
+                return list::no_room(words);
+            }
+            write_values(pairs, list);
+            list::accepted(words, commands, records, words)
+        }
+    }
+}
