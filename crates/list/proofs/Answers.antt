@@ -1,5 +1,5 @@
 -- The answers, by what the first pass found.
-use Prim.Native.Nat.{ℕ, _+_, _*_, _/_, _≤_, _<_}
+use Prim.Native.Nat.{ℕ, _+_, _≤_, _<_}
 use native.Mathlib.Omega.{arith}
 use mathlib.Core.Path.{_≡_, refl, ap, sym, _∙_}
 use mathlib.Core.List.{List, _++_}
@@ -9,11 +9,9 @@ use lib.Seq.{sets, sets-eq}
 use Rattle.rules.specs.declared.Refusal.{Refusal}
 use Rattle.rules.specs.Command.{Command}
 use Rattle.rules.specs.Values.{refusal}
-use Rattle.rules.specs.Walk.{Parsed, refused, accepted, parse}
-use Rattle.rules.specs.Image.{final}
-use Rattle.rules.specs.Records.{records, recordWords}
-use Rattle.rules.specs.Answer.{acceptedAnswer, writeParsed, refuse, room, readParsed, reading, commandsOf}
-use Rattle.rules.proofs.Verdict.{length-recordWords}
+use Rattle.rules.specs.Walk.{Parsed, refused, accepted}
+use Rattle.rules.specs.Records.{records}
+use Rattle.rules.specs.Answer.{acceptedAnswer, writeParsed, refuse, commandsOf}
 use Rattle.list.specs.declared.Walked.the-variants as walked
 use Rattle.list.specs.View.{walkedOf}
 

@@ -1,18 +1,18 @@
 -- The reader's answer, by what the first pass found.
-use Prim.Native.Nat.{ℕ, _+_, _*_, _/_, _≤_, _<_}
+use Prim.Native.Nat.{ℕ, _*_, _/_, _≤_, _<_}
 use native.Mathlib.Omega.{arith}
-use mathlib.Core.Path.{_≡_, refl, ap, sym, _∙_}
-use mathlib.Core.List.{List, _++_}
+use mathlib.Core.Path.{_≡_, ap, sym, _∙_}
+use mathlib.Core.List.{List}
 use borrow.Author.Tests.{lt-ltb, le-ltb}
-use lib.ListN.{length, drop}
-use lib.Seq.{sets, sets-eq}
+use lib.ListN.{length}
+use lib.Seq.{sets}
 use Rattle.rules.specs.declared.Refusal.{Refusal}
 use Rattle.rules.specs.Command.{Command}
 use Rattle.rules.specs.Values.{refusal}
 use Rattle.rules.specs.Walk.{Parsed, refused, accepted, parse}
 use Rattle.rules.specs.Image.{final}
 use Rattle.rules.specs.Records.{records, recordWords}
-use Rattle.rules.specs.Answer.{acceptedAnswer, writeParsed, refuse, room, readParsed, reading, commandsOf}
+use Rattle.rules.specs.Answer.{acceptedAnswer, refuse, room, readParsed, reading, commandsOf}
 use Rattle.rules.proofs.Verdict.{length-recordWords}
 use Rattle.list.specs.declared.Walked.the-variants as walked
 use Rattle.list.specs.View.{walkedOf}
