@@ -131,25 +131,24 @@ fn compare_all(lists: &[Vec<u32>]) -> usize {
     done + 3
 }
 
-/// Each clash: a maximum over the bank's limit, that with a minimum against it too, a minimum alone, raster bits, bit
-/// 23 of a load, a plane range.
-const CLASHES: [[u32; 4]; 6] = [
-    [0x8400_0000, 0x1000_0000, 0xC000_0000, 0],
-    [0x8400_0000, 0x2000_0000, 0x7000_7000, 0],
-    [0x8400_0000, 0, 0x4000_4000, 0],
+/// The clashes but for window clips: raster bits, bit 23 of a load, a plane range.
+const CLASHES: [[u32; 4]; 3] = [
     [0x8800_4000, 0, 0, 0],
     [0x4090_0000, 0, 0, 0],
     [0x4050_2400, 0, 0, 0],
 ];
 
-/// Compares on zero commands of each id with one bit changed, and on the clashes. Gives their number.
+/// Compares on zero commands of each id with one bit changed, on window clips with every bank, page maximum and
+/// minimum, and on the other clashes. Gives their number.
 fn compare_commands() -> usize {
     let one_bit = |id: u32, bit: usize| {
         let mut command = [id << 24, 0, 0, 0];
         command[bit / 32] ^= 1 << (bit % 32);
         command
     };
-    let commands: Vec<_> = (0..256).flat_map(|id| (0..128).map(move |bit| one_bit(id, bit))).chain(CLASHES).collect();
+    let one_bits = (0..256).flat_map(|id| (0..128).map(move |bit| one_bit(id, bit)));
+    let clips = (0..1024).map(|n| [0x8400_0000, n / 256 << 28, n / 16 % 16 << 28 | n % 16 << 12, 0]);
+    let commands: Vec<_> = one_bits.chain(clips).chain(CLASHES).collect();
     for command in &commands {
         compare(2, command, &[0; 256], 16, 6);
         compare_pairs(2, &pairs_of(command), &[0; 256], 4, 6);

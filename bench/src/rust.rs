@@ -154,7 +154,7 @@ pub fn check_window_clip(words: [u32; 4], at: usize) -> Result<(), Refusal> {
     if max > limit {
         return Err(Refusal::new(15, at));
     }
-    if min != 0 && min >= max {
+    if min > max {
         return Err(Refusal::new(16, at));
     }
     Ok(())

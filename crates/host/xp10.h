@@ -33,7 +33,7 @@ enum {
     XP10_WRONG_ADDRESS = 13,   /* of a PCI write: the number of that pair, from 0 on */
     XP10_PAIRS_CUT_SHORT = 14, /* PCI writes that end inside a command: the number of the command's first pair */
     XP10_PAGE_MAXIMUM = 15,    /* window clip: the page maximum is over the bank's limit: the command's first word */
-    XP10_PAGE_MINIMUM = 16,    /* window clip: the page minimum is not below the maximum: the command's first word */
+    XP10_PAGE_MINIMUM = 16,    /* window clip: the page minimum is over the maximum: the command's first word */
     XP10_RASTER_BITS = 17,     /* raster mode: bit 14 without bit 22: the command's first word */
     XP10_LOAD_FLOATS = 18,     /* bit 23 of a load whose code is not 5: the command's first word */
     XP10_PLANE_RANGE = 19      /* a load of user clip planes behind the eighth: the command's first word */

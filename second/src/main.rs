@@ -1,4 +1,4 @@
-//! A second implementation of document 01, with Tickets 1 and 2 of document 02, to compare with the
+//! A second implementation of document 01, with Tickets 1 to 3 of document 02, to compare with the
 //! proved one.
 
 mod compare;

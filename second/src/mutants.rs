@@ -6,6 +6,7 @@ mod effects;
 mod equivalent;
 mod orders;
 mod stored;
+mod thresholds;
 
 use crate::listings;
 use crate::lists::{self, Case};

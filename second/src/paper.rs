@@ -1,4 +1,4 @@
-//! The cases of document 01, with the numbers of Ticket 2, and the guide's own words.
+//! The cases of document 01, as Tickets 2 and 3 changed them, and the guide's own words.
 
 use crate::rules::NO_BIT;
 
@@ -57,7 +57,7 @@ const fn form(
 
 const N1_LIST: &[u32] = &[0x02000010, 0x02000020, 0x00000001, 0x02000020];
 
-pub const CASES: [PaperCase; 27] = [
+pub const CASES: [PaperCase; 28] = [
     accepted("P1", &[], 0),
     PaperCase {
         name: "P2",
@@ -71,7 +71,9 @@ pub const CASES: [PaperCase; 27] = [
     undefined("P6", &[0x01000002], 0, 1),
     refused("P7", &[0x84000000, 0x30000000, 0, 0], 7, 1),
     refused("P8", &[0x84000000, 0x10000000, 0xC0000000, 0], 15, 0),
-    refused("P9", &[0x84000000, 0, 0x40004000, 0], 16, 0),
+    // Ticket 3: "P9 becomes accepted, and third word 30004000 takes its place as refused."
+    accepted("P9", &[0x84000000, 0, 0x40004000, 0], 1),
+    refused("in P9's place", &[0x84000000, 0, 0x30004000, 0], 16, 0),
     refused("P10", &[0x88004000, 0, 0, 0], 17, 0),
     refused("P11", &[0x40500001, 0, 0, 0, 0, 0, 0], 9, 0),
     refused("P12", &[0x21000000, 0x21000000], 10, 1),

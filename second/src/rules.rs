@@ -1,5 +1,5 @@
-//! Reading, normalising and listing by document 01, with PCI writes by Ticket 1 of document 02, and
-//! the bit and the clashes told by Ticket 2.
+//! Reading, normalising and listing by document 01, with PCI writes by Ticket 1 of document 02, the
+//! bit and the clashes told by Ticket 2, and the page thresholds by Ticket 3.
 //!
 //! What the documents fix stands in `document` as a value of `Rules`; here is what they say to do
 //! with it. Nothing may panic for a `Rules` with one part changed, so that `mutants` can run it.

@@ -8,9 +8,10 @@ use crate::prng::Prng;
 use crate::rules::{self, Answer, Refusal, IMAGE_WORDS, NO_BIT, RECORD_WORDS};
 
 /// Each panics when it fails.
-pub const CHECKS: [(&str, fn()); 9] = [
+pub const CHECKS: [(&str, fn()); 10] = [
     ("cases of document 01", paper_cases),
     ("the guide's writes", guide_writes),
+    ("page thresholds", page_thresholds),
     ("listing", listings),
     ("lent words", lent_words),
     ("the bit told", told_bit),
@@ -75,6 +76,9 @@ fn listings() {
     assert_eq!(rules::paper().listing(&bytes(&[0x03000000])), "refused 4 at 0\n");
     assert_eq!(rules::paper().listing(&bytes(&[0x01000002])), "refused 6 at 0\n");
     assert_eq!(rules::paper().listing(&bytes(&[0x40501C02, 0, 0, 0])), "refused 19 at 0\n");
+    let clip = |word| rules::paper().listing(&bytes(&[0x84000000, 0, word, 0]));
+    assert_eq!(clip(0x40004000), "at id words head\naccepted commands 1 items 0\n");
+    assert_eq!(clip(0x30004000), "refused 16 at 0\n");
 }
 
 /// A refusal changes nothing; after acceptance the words behind those written are as before.
@@ -199,6 +203,24 @@ fn guide_writes() {
     }
 }
 
+/// Every bank, maximum and minimum, by the guide's real values: its limits are 16, 12 and 7, "Real
+/// value=setting+1" for the maximum, "Real value = setting" for the minimum.
+fn page_thresholds() {
+    for number in 0..4 * 16 * 16_u32 {
+        let (bank, maximum, minimum) = (number >> 8, number >> 4 & 15, number & 15);
+        let list = [0x84000000, bank << 28, maximum << 28 | minimum << 12, 0];
+        let (real_maximum, real_minimum) = (maximum + 1, minimum);
+        let expected = match [16, 12, 7].get(bank as usize) {
+            None => (7, 1),
+            Some(limit) if real_maximum > *limit => (15, 0),
+            Some(_) if real_minimum > 0 && real_minimum >= real_maximum => (16, 0),
+            Some(_) => (0, 4),
+        };
+        let answer = records(&list, &mut [0; IMAGE_WORDS]).0;
+        assert_eq!((answer.verdict, answer.position, answer.bit), (expected.0, expected.1, NO_BIT));
+    }
+}
+
 /// Writing and reading pairs undo each other, and the list's own refusals are the reader's.
 fn pairs_and_back() {
     let mut back = 0;
@@ -309,6 +331,11 @@ mod tests {
     #[test]
     fn guide_writes() {
         super::guide_writes();
+    }
+
+    #[test]
+    fn page_thresholds() {
+        super::page_thresholds();
     }
 
     #[test]

@@ -125,7 +125,7 @@ fn clip_faults(g: Group) -> Faults
     let bank = (g.second >> 28) % 4;
     let most = (g.third >> 28) % 16;
     let least = (g.third >> 12) % 16;
-    let minimum = clash((least != 0) & (most <= least), 16, 0);
+    let minimum = clash(!((least == 0) | (least < most + 1)), 16, 0);
     Faults {
         first: false,
         second: bank == 3,

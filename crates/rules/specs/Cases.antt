@@ -1,4 +1,4 @@
--- Cases P1 to P12 and N1 to N4 (document 01, "Cases on each side", with the numbers of document 02, Ticket 2) and the
+-- Cases P1 to P12 and N1 to N4 (document 01, "Cases on each side", as document 02, Tickets 2 and 3, changes them) and the
 -- guide's own PCI writes, in one table.
 use Prim.Native.Nat.{ℕ}
 use mathlib.Core.Bool.{Bool, true, _&&_}
@@ -88,14 +88,16 @@ cases =
     ∷ fromZeros (0x01000002 ∷ []) (refusedAs (told 6 0 1))
     ∷ fromZeros (0x84000000 ∷ 0x30000000 ∷ 0 ∷ 0 ∷ []) (refusedAt 7 1)
     ∷ fromZeros (0x84000000 ∷ 0x10000000 ∷ 0xC0000000 ∷ 0 ∷ []) (refusedAt 15 0)
-    ∷ fromZeros (0x84000000 ∷ 0 ∷ 0x40004000 ∷ 0 ∷ []) (refusedAt 16 0)
+    -- "P9 becomes accepted, and third word 30004000 takes its place as refused."
+    ∷ fromZeros (0x84000000 ∷ 0 ∷ 0x40004000 ∷ 0 ∷ []) (commands 1)
+    ∷ fromZeros (0x84000000 ∷ 0 ∷ 0x30004000 ∷ 0 ∷ []) (refusedAt 16 0)
     ∷ fromZeros (0x88004000 ∷ 0 ∷ 0 ∷ 0 ∷ []) (refusedAt 17 0)
     ∷ fromZeros (0x40500001 ∷ replicate 6 0) (refusedAt 9 0)
     ∷ fromZeros (0x21000000 ∷ 0x21000000 ∷ []) (refusedAt 10 1)
     -- the clashes of a load, the second "since 8 comes before 9"; of two clashes of a window clip the first
     ∷ fromZeros (0x40900000 ∷ 0 ∷ 0 ∷ 0 ∷ []) (refusedAt 18 0)
     ∷ fromZeros (0x40501C02 ∷ 0 ∷ 0 ∷ 0 ∷ []) (refusedAt 19 0)
-    ∷ fromZeros (0x84000000 ∷ 0x10000000 ∷ 0xC000C000 ∷ 0 ∷ []) (refusedAt 15 0)
+    ∷ fromZeros (0x84000000 ∷ 0x10000000 ∷ 0xC000D000 ∷ 0 ∷ []) (refusedAt 15 0)
     -- of several undefined bits the lowest, at the lowest word
     ∷ fromZeros (0x02000010 ∷ 0x88000000 ∷ 0 ∷ 0x80C00000 ∷ 0xFF000000 ∷ []) (refusedAs (told 6 3 22))
     ∷ fromZeros n1 (normalFormIs (0x02000020 ∷ 0x00000001 ∷ []))

@@ -1,5 +1,5 @@
 -- The rules on a command's own words: undefined bits, illegal values and clashes (document 01, "The commands"; document 02,
--- Ticket 2).
+-- Tickets 2 and 3).
 use Prim.Native.Nat.{ℕ, suc, _+_}
 use mathlib.Core.Bool.{Bool, cond, not, _&&_, _||_}
 use mathlib.Core.List.{List, [], _∷_, _++_}
@@ -80,9 +80,9 @@ clipFaults a b =
     fault (eqb bank 3) 7 1
     -- 15 "maximum over the bank's limit"
     ∷ fault (ltb (pageLimit bank) most) 15 0
-    -- 16 "minimum against maximum": "The stored minimum is zero or less than the stored maximum." "Where 15 and 16 both
-    -- hold, 15 is given."
-    ∷ fault (not (eqb least 0) && leb most least) 16 0
+    -- 16 "minimum against maximum": "the minimum is zero or less than the stored maximum plus one" (02, Ticket 3). "Where
+    -- 15 and 16 both hold, 15 is given."
+    ∷ fault (not (eqb least 0 || ltb least (most + 1))) 16 0
     ∷ []
 
 -- Raster mode (001, 6.3): 17 "raster bits": "if header bit 22 (page-based rendering) is 0, bit 14 (always full page) is 0"

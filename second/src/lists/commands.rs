@@ -117,7 +117,7 @@ fn valid_clip(rng: &mut Prng, row: &Row) -> Vec<u32> {
     let mut words = defined_words(rng, row);
     let bank = rng.below(3);
     let maximum = rng.below(BANK_LIMITS[bank] as usize + 1) as u32;
-    let minimum = if maximum == 0 { 0 } else { rng.below(maximum as usize) as u32 };
+    let minimum = rng.below(maximum as usize + 1) as u32;
     words[1] = words[1] & 0x0FFFFFFF | (bank as u32) << 28;
     words[2] = words[2] & 0x0FFF0FFF | maximum << 28 | minimum << 12;
     words
@@ -294,11 +294,11 @@ fn clashing_clip(rng: &mut Prng) -> Vec<u32> {
     let limit = BANK_LIMITS[bank];
     let (maximum, minimum) = if limit < 15 && rng.once_in(2) {
         let maximum = limit + 1 + rng.below((15 - limit) as usize) as u32;
-        (maximum, rng.pick(&[0, 1, maximum, 15]))
+        (maximum, rng.pick(&[0, 1, maximum, (maximum + 1).min(15), 15]))
     } else {
-        let maximum = rng.below(limit as usize + 1) as u32;
-        let lowest = maximum.max(1);
-        (maximum, lowest + rng.below((16 - lowest) as usize) as u32)
+        // No minimum is too large for 15.
+        let maximum = rng.below(limit.min(14) as usize + 1) as u32;
+        (maximum, maximum + 1 + rng.below((15 - maximum) as usize) as u32)
     };
     words[1] = words[1] & 0x0FFFFFFF | (bank as u32) << 28;
     words[2] = words[2] & 0x0FFF0FFF | maximum << 28 | minimum << 12;
@@ -345,5 +345,39 @@ fn base_and_follower(rng: &mut Prng) -> Vec<u32> {
             words.extend(valid(rng, id));
             return words;
         }
+    }
+}
+
+#[cfg(test)]
+mod tests {
+    use super::*;
+
+    fn verdict(list: &[u32]) -> u32 {
+        rules::paper().commands(list).err().map_or(0, |refusal| refusal.verdict)
+    }
+
+    fn thresholds(list: &[u32]) -> (u32, u32) {
+        (list[2] >> 28, list[2] >> 12 & 15)
+    }
+
+    /// On both sides of the edge: a minimum equal to the maximum, and one over it.
+    #[test]
+    fn clips_are_what_they_are_made_for() {
+        let (mut equal, mut one_over, mut both) = (0, 0, 0);
+        for number in 0..10_000 {
+            let rng = &mut Prng::new(17, number);
+            let good = valid(rng, 0x84);
+            let (maximum, minimum) = thresholds(&good);
+            assert_eq!(verdict(&good), 0, "{good:08X?}");
+            equal += (minimum > 0 && minimum == maximum) as u32;
+
+            let clashing = clashing_clip(rng);
+            let (maximum, minimum) = thresholds(&clashing);
+            let given = verdict(&clashing);
+            assert!([15, 16].contains(&given), "{clashing:08X?}");
+            one_over += (given == 16 && minimum == maximum + 1) as u32;
+            both += (given == 15 && minimum > maximum) as u32;
+        }
+        assert!(equal > 500 && one_over > 500 && both > 500, "{equal}, {one_over}, {both}");
     }
 }

@@ -15,7 +15,7 @@ const TIMER: u32 = 0x02000000;
 /// A command for each of verdicts 15 to 19.
 const CLASHES: [[u32; 4]; 5] = [
     [0x84000000, 0x10000000, 0xC0000000, 0],
-    [0x84000000, 0, 0x40004000, 0],
+    [0x84000000, 0, 0x30004000, 0],
     [0x88004000, 0, 0, 0],
     [0x40800000, 0, 0, 0],
     [0x40502400, 0, 0, 0],
@@ -410,14 +410,15 @@ fn payload_like_commands() -> Vec<Vec<u32>> {
     lists
 }
 
+/// Each maximum of each bank, over the bank's limit too, with a minimum of zero, one under the maximum,
+/// equal to it and one over; bank 3 is illegal with any.
 pub fn clip_limits() -> Vec<Vec<u32>> {
     let mut lists = Vec::new();
-    for bank in 0..4 {
-        let limit = [15, 11, 6, 15][bank as usize];
-        for maximum in [0, 1, limit - 1, limit, (limit + 1).min(15), 15] {
-            for minimum in [0, 1, limit - 2, limit - 1, limit, (limit + 1).min(15)] {
-                lists.push(clip(bank, maximum, minimum));
-            }
+    for (bank, maxima) in [(0, 0..16_u32), (1, 0..16), (2, 0..16), (3, 14..16)] {
+        for maximum in maxima {
+            let zero = (maximum > 1).then_some(0).into_iter();
+            let near = maximum.saturating_sub(1)..=(maximum + 1).min(15);
+            lists.extend(zero.chain(near).map(|minimum| clip(bank, maximum, minimum)));
         }
     }
     lists
@@ -538,7 +539,7 @@ pub fn two_faults() -> Vec<Vec<u32>> {
         vec![0x88084000, 0, 0, 0],
         vec![0x88004000, 0, 0, 0x01000000],
         vec![0x84000000, 0x50000000, 0xF0000000, 0],
-        vec![0x84000000, 0x40000000, 0x40004000, 0],
+        vec![0x84000000, 0x40000000, 0x30004000, 0],
         vec![0x40800200, 0, 0, 0],
         vec![0x40580009, 0, 0, 0],
         // An illegal value ahead of a clash.
@@ -547,7 +548,7 @@ pub fn two_faults() -> Vec<Vec<u32>> {
         vec![0x40800000, 0, 1, 0],
         vec![0x40800000, 0, 0, 1],
         vec![0x40500009, 0, 0, 1],
-        vec![0x84000000, 0x30000000, 0x10001000, 0],
+        vec![0x84000000, 0x30000000, 0x00001000, 0],
         // Illegal values in two words: the lowest.
         vec![0x40700000, 1, 1, 1],
         vec![0x40000000, 1, 1, 1],
@@ -556,9 +557,9 @@ pub fn two_faults() -> Vec<Vec<u32>> {
         vec![0x48000001, 1, 1, 1],
         vec![0x48000000, 0, 1, 1],
         // Both page thresholds: the maximum.
-        vec![0x84000000, 0x10000000, 0xC000C000, 0],
+        vec![0x84000000, 0x10000000, 0xC000D000, 0],
         vec![0x84000000, 0x20000000, 0x7000F000, 0],
-        vec![0x84000000, 0x20000000, 0xF000F000, 0],
+        vec![0x84000000, 0x20000000, 0xE000F000, 0],
         // Bit 23 and the payload; the plane range and the payload.
         vec![0x40800001, 0, 0, 0],
         vec![0x40500009, 0, 0, 0],
@@ -841,5 +842,30 @@ mod tests {
                 assert!(lists.contains(&clip(bank as u32, maximum, 0)));
             }
         }
+    }
+
+    /// The verdict of a clip, and that it is among the lists.
+    fn verdict_of_limit(bank: u32, maximum: u32, minimum: u32) -> u32 {
+        let list = clip(bank, maximum, minimum);
+        assert!(clip_limits().contains(&list), "{list:08X?}");
+        rules::paper().commands(&list).err().map_or(0, |refusal| refusal.verdict)
+    }
+
+    #[test]
+    fn minimum_is_tried_around_the_maximum() {
+        for (bank, limit) in (0..).zip(BANK_LIMITS) {
+            for (maximum, minimum, verdict) in [(0, 0, 0), (0, 1, 16), (4, 4, 0), (3, 4, 16)] {
+                assert_eq!(verdict_of_limit(bank, maximum, minimum), verdict);
+            }
+            assert_eq!(verdict_of_limit(bank, limit, limit - 1), 0);
+            assert_eq!(verdict_of_limit(bank, limit, limit), 0);
+            if limit < 15 {
+                assert_eq!(verdict_of_limit(bank, limit, limit + 1), 16);
+                assert_eq!(verdict_of_limit(bank, limit + 1, limit + 1), 15);
+                assert_eq!(verdict_of_limit(bank, limit + 1, limit + 2), 15);
+            }
+        }
+        assert_eq!(verdict_of_limit(0, 14, 15), 16);
+        assert_eq!(verdict_of_limit(3, 14, 15), 7);
     }
 }

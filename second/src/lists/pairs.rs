@@ -242,7 +242,7 @@ pub fn bits_and_limits() -> Vec<Vec<u32>> {
         fixed::undefined_in_two_words(),
         undefined_loads(),
     ];
-    let minimum_bits = (0..4).map(|bit| clip(0, 1, 1 << bit)).collect();
+    let minimum_bits = (0..4).map(|bit| clip(0, 0, 1 << bit)).collect();
     let clips = [fixed::clip_limits(), minimum_bits];
     let values = [fixed::load_codes(), clips.concat(), fixed::raster_bits()];
     let planes = [fixed::plane_ranges(), fixed::planes_with_payload()];

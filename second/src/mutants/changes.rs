@@ -1,7 +1,7 @@
-//! All the changes: of each part of the rules, of orders, of the clashes' numbers, of answers and lent
-//! words.
+//! All the changes: of each part of the rules, of orders, of the clashes' numbers, of single page
+//! thresholds, of answers and lent words.
 
-use super::{clashes, effects, orders};
+use super::{clashes, effects, orders, thresholds};
 use crate::lists::Case;
 use crate::outcome::{self, Function, Outcome};
 use crate::rules::{self, Rules, Terms};
@@ -104,6 +104,7 @@ pub fn all() -> Vec<Mutant> {
     let mut all: Vec<Mutant> = rules.map(|(name, rules)| Mutant::of_rules(name, rules)).collect();
     all.extend(orders::all());
     all.extend(clashes::all());
+    all.extend(thresholds::all());
     all.extend(effects::all());
     all
 }

@@ -100,6 +100,30 @@ const REASONS: &[Reason] = &[
         &["table: 84: fault 1: test: right: for 0: 16, not 15"],
     ),
     (
+        "a minimum of at least the maximum plus one is not zero, nor is a field of more bits around it",
+        &[
+            "table: 84: fault 2: test: first: Always, not NotEqual",
+            "table: 84: fault 2: test: first: left: field: bits 16..12, *",
+            "table: 84: fault 2: test: first: left: field: bits 17..12, *",
+            "table: 84: fault 2: test: first: left: field: bits 18..12, *",
+            "table: 84: fault 2: test: first: left: field: bits 19..12, *",
+            "table: 84: fault 2: test: first: left: field: bits 2*..12, *",
+            "table: 84: fault 2: test: first: left: field: bits 3*..12, *",
+            "table: 84: fault 2: test: first: left: field: bits 15..0, *",
+            "table: 84: fault 2: test: first: left: field: bits 15..1, *",
+            "table: 84: fault 2: test: first: left: field: bits 15..2, *",
+            "table: 84: fault 2: test: first: left: field: bits 15..3, *",
+            "table: 84: fault 2: test: first: left: field: bits 15..4, *",
+            "table: 84: fault 2: test: first: left: field: bits 15..5, *",
+            "table: 84: fault 2: test: first: left: field: bits 15..6, *",
+            "table: 84: fault 2: test: first: left: field: bits 15..7, *",
+            "table: 84: fault 2: test: first: left: field: bits 15..8, *",
+            "table: 84: fault 2: test: first: left: field: bits 15..9, *",
+            "table: 84: fault 2: test: first: left: field: bits 15..10, *",
+            "table: 84: fault 2: test: first: left: field: bits 15..11, *",
+        ],
+    ),
+    (
         "no command has two clashes but for 15 and 16: 17 is of 88, 18 and 19 are of 40, 18 with \
          any code but 5 and 19 with 5",
         &[

@@ -1,4 +1,4 @@
-//! Document 01, and Tickets 1 and 2 of document 02, as a value: each part under its sentence.
+//! Document 01, and Tickets 1 to 3 of document 02, as a value: each part under its sentence.
 
 use super::language::{Field, Mask, Quantity, Set, Test, Value};
 use super::shape::*;
@@ -213,8 +213,8 @@ fn clip_faults(terms: &Terms) -> Vec<Fault> {
         illegal(1, terms.bank.is(3)),
         // "the stored maximum is at most 15, 11 and 6"
         fault(PageMaximum, 2, maximum.over(Value::At(terms.bank, vec![15, 11, 6]))),
-        // "The stored minimum is zero or less than the stored maximum."
-        fault(PageMinimum, 2, minimum.is_not(0).and(minimum.at_least(maximum))),
+        // Ticket 3: "From now on the minimum is zero or less than the stored maximum plus one."
+        fault(PageMinimum, 2, minimum.is_not(0).and(minimum.at_least(maximum.plus_number(1)))),
     ]
 }
 

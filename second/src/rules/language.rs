@@ -35,6 +35,11 @@ impl Field {
         Value::Sum(self, other, Mask { bits: !0, width: 10 })
     }
 
+    pub fn plus_number(self, number: u32) -> Value {
+        // All bits count; a field of four bits and a small number have a sum of five.
+        Value::Plus(self, number, Mask { bits: !0, width: 5 })
+    }
+
     pub fn is(self, number: u32) -> Test {
         Value::Field(self).is(number)
     }
@@ -47,8 +52,8 @@ impl Field {
         Value::Field(self).over(limit)
     }
 
-    pub fn at_least(self, other: Field) -> Test {
-        Test::Compare(Value::Field(self), Comparison::AtLeast, Value::Field(other))
+    pub fn at_least(self, other: Value) -> Test {
+        Test::Compare(Value::Field(self), Comparison::AtLeast, other)
     }
 
     pub fn one_of(self, members: &[u32], below: u32) -> Test {
@@ -150,6 +155,8 @@ pub enum Value {
     Field(Field),
     /// The sum of two fields, of which the masked bits count.
     Sum(Field, Field, Mask),
+    /// The sum of a field and a number, of which the masked bits count.
+    Plus(Field, u32, Mask),
     /// The number that stands at the field's value.
     At(Field, Vec<u32>),
     /// The bits of a word that are in the mask beside the field's value.
@@ -167,6 +174,10 @@ impl Value {
             Value::Number(number) => *number,
             Value::Field(field) => field.of(facts.words),
             Value::Sum(a, b, mask) => (a.of(facts.words) + b.of(facts.words)) & mask.bits,
+            // A changed field can be a whole word.
+            Value::Plus(field, number, mask) => {
+                field.of(facts.words).wrapping_add(*number) & mask.bits
+            }
             Value::At(field, numbers) => {
                 numbers.get(field.of(facts.words) as usize).copied().unwrap_or(0)
             }

@@ -75,6 +75,14 @@ impl Vary for Value {
                 all.push(("second alone".into(), Value::Field(*b)));
                 all
             }
+            Value::Plus(field, number, mask) => {
+                let mut all = within("field", field, |field| Value::Plus(field, *number, *mask));
+                all.extend(within("added", number, |number| Value::Plus(*field, number, *mask)));
+                all.extend(within("sum", mask, |mask| Value::Plus(*field, *number, mask)));
+                all.push(("field doubled".into(), Value::Sum(*field, *field, *mask)));
+                all.push(("number alone".into(), Value::Number(*number)));
+                all
+            }
             Value::At(field, numbers) => numbers_by_field(field, numbers),
             Value::Bits { word, key, masks } => bits_by_field(*word, key, masks),
             Value::Quantity(quantity) => within("quantity", quantity, Value::Quantity),

@@ -7,4 +7,4 @@ returns c = rw (c .clash2 .ensures, c .before .before .clash .ensures, c .before
 
 pub clip-faults-spec : {M : Type 1} → statement M
 clip-faults-spec = tie.close
-    (tie.spec (λ c κs. search needs) (λ c κs. search needs) (λ c κs. search needs) returns)
+    (tie.spec (λ c. search needs) (λ c κs. search needs) (λ c κs. search needs) (λ c κs. search needs) returns)
