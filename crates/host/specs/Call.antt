@@ -1,14 +1,9 @@
 -- What the exported functions give back.
-use Prim.Native.Nat.{ℕ, _≤_}
-use mathlib.Core.List.{List, [], _∷_}
+use Prim.Native.Nat.{ℕ}
+use mathlib.Core.List.{List}
 use lib.Seq.{sets}
-use Rattle.rules.specs.declared.Answer.{Answer}
 use Rattle.rules.specs.Answer.{Outcome}
-
--- "The answer has verdict, position, commands, records, and words written to the lent buffer." "With 6, the answer now
--- also gives the number of the lowest undefined bit": the sixth.
-abbrev pub answerWords : Answer → List ℕ
-answerWords a = a .verdict ∷ a .position ∷ a .commands ∷ a .records ∷ a .words ∷ a .bit ∷ []
+use Rattle.answer.specs.Numbers.{numbers}
 
 -- what a call returns, and the lent words after it
 pub record CallResult : Type 0 where
@@ -20,11 +15,4 @@ pub record CallResult : Type 0 where
 -- the verdict is returned, and the answer's words get the six numbers, as many as there are words
 abbrev pub callResult : Outcome → List ℕ → CallResult
 callResult o answer =
-    record { verdict = o .answer .verdict; image = o .image; buffer = o .buffer; answer = sets answer 0 (answerWords (o .answer)) }
-
--- every number of an answer is small
-pub record Small (a : Answer) : Type 0 where
-  pub position : a .position ≤ 16384
-  pub commands : a .commands ≤ 16384
-  pub records : a .records ≤ 16384
-  pub words : a .words ≤ 16384
+    record { verdict = o .answer .verdict; image = o .image; buffer = o .buffer; answer = sets answer 0 (numbers (o .answer)) }

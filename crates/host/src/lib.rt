@@ -1,24 +1,8 @@
 // The functions that C and Rust call (xp10.h).
-use rules::Answer;
-use words::put;
 ghost use mathlib.Core.Path.{_≡_};
-ghost use lib.Seq.{sets};
 ghost use Rattle.rules.specs.Answer.{reading, normalising};
 ghost use Rattle.rules.specs.Pci.{toPci, fromPci};
-ghost use Rattle.host.specs.Call.{Small, answerWords, callResult};
-
-// The six numbers of an answer, as many as there is room for.
-fn write_answer(a: Answer, answer: &mut [u32])
-    requires { ⌜ Small a ⌝ }
-    ensures { λ _. ⌜ now (answer .exit) ≡ sets (now (answer .entry)) 0 (answerWords a) ⌝ }
-{
-    put(answer, 0, a.verdict);
-    put(answer, 1, a.position as u32);
-    put(answer, 2, a.commands as u32);
-    put(answer, 3, a.records as u32);
-    put(answer, 4, a.words as u32);
-    put(answer, 5, a.bit);
-}
+ghost use Rattle.host.specs.Call.{callResult};
 
 // The reader.
 #[no_mangle]
@@ -31,7 +15,7 @@ pub extern "C" fn xp10_read(
     ensures { λ r. ⌜ record { verdict = r; image = now (image .exit); buffer = now (records .exit); answer = now (answer .exit) } ≡ callResult (reading (now (list .entry)) (now (image .entry)) (now (records .entry))) (now (answer .entry)) ⌝ }
 {
     let a = reader::read(list, image, records);
-    write_answer(a, answer);
+    answer::write(a, answer);
     a.verdict
 }
 
@@ -46,7 +30,7 @@ pub extern "C" fn xp10_normalise(
     ensures { λ r. ⌜ record { verdict = r; image = now (image .entry); buffer = now (out .exit); answer = now (answer .exit) } ≡ callResult (normalising (now (list .entry)) (now (image .entry)) (now (out .entry))) (now (answer .entry)) ⌝ }
 {
     let a = form::normalise(list, image, out);
-    write_answer(a, answer);
+    answer::write(a, answer);
     a.verdict
 }
 
@@ -61,7 +45,7 @@ pub extern "C" fn xp10_to_pci(
     ensures { λ r. ⌜ record { verdict = r; image = now (image .entry); buffer = now (pairs .exit); answer = now (answer .exit) } ≡ callResult (toPci (now (list .entry)) (now (image .entry)) (now (pairs .entry))) (now (answer .entry)) ⌝ }
 {
     let a = pci_writer::to_pci(list, image, pairs);
-    write_answer(a, answer);
+    answer::write(a, answer);
     a.verdict
 }
 
@@ -76,6 +60,6 @@ pub extern "C" fn xp10_from_pci(
     ensures { λ r. ⌜ record { verdict = r; image = now (image .entry); buffer = now (list .exit); answer = now (answer .exit) } ≡ callResult (fromPci (now (pairs .entry)) (now (image .entry)) (now (list .entry))) (now (answer .entry)) ⌝ }
 {
     let a = pci_reader::from_pci(pairs, image, list);
-    write_answer(a, answer);
+    answer::write(a, answer);
     a.verdict
 }

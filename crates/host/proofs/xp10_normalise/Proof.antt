@@ -4,7 +4,7 @@ use Rattle.host.proofs.xp10_normalise.Statement.{statement}
 use Rattle.host.proofs.xp10_normalise.Tie as tie
 
 returns : tie.Need-returns
-returns c = call-result (c .before .before .before .before .before .before .before .before .before .before .before .before .args .answer .now) (c .before .before .before .before .before .before .normalise .ensures) (c .before .before .write-answer .ensures)
+returns c = call-result (c .before .before .before .before .before .before .before .before .before .before .before .before .args .answer .now) (c .before .before .before .before .before .before .normalise .ensures) (c .before .before .write .ensures)
 
 pub xp10-normalise-spec : {M : Type 1} → statement M
 xp10-normalise-spec =

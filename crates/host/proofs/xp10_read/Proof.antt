@@ -4,7 +4,7 @@ use Rattle.host.proofs.xp10_read.Statement.{statement}
 use Rattle.host.proofs.xp10_read.Tie as tie
 
 returns : tie.Need-returns
-returns c = call-result (c .before .before .before .before .before .before .before .before .before .before .before .before .before .before .before .args .answer .now) (c .before .before .before .before .before .before .before .before .read .ensures) (c .before .before .write-answer .ensures)
+returns c = call-result (c .before .before .before .before .before .before .before .before .before .before .before .before .before .before .before .args .answer .now) (c .before .before .before .before .before .before .before .before .read .ensures) (c .before .before .write .ensures)
 
 pub xp10-read-spec : {M : Type 1} → statement M
 xp10-read-spec =

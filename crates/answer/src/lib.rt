@@ -1,0 +1,19 @@
+// An answer as words for a caller.
+use rules::Answer;
+use words::put;
+ghost use mathlib.Core.Path.{_≡_};
+ghost use lib.Seq.{sets};
+ghost use Rattle.answer.specs.Numbers.{Small, numbers};
+
+// The six numbers of an answer, as many as there is room for.
+pub fn write(a: Answer, answer: &mut [u32])
+    requires { ⌜ Small a ⌝ }
+    ensures { λ _. ⌜ now (answer .exit) ≡ sets (now (answer .entry)) 0 (numbers a) ⌝ }
+{
+    put(answer, 0, a.verdict);
+    put(answer, 1, a.position as u32);
+    put(answer, 2, a.commands as u32);
+    put(answer, 3, a.records as u32);
+    put(answer, 4, a.words as u32);
+    put(answer, 5, a.bit);
+}
