@@ -3,12 +3,13 @@ use rules::Answer;
 use words::put;
 ghost use mathlib.Core.Path.{_≡_};
 ghost use lib.Seq.{sets};
-ghost use Rattle.answer.specs.Numbers.{Small, numbers};
+ghost use Rattle.rules.specs.Answer.{answerWords};
+ghost use Rattle.answer.specs.Small.{Small};
 
 // The six numbers of an answer, as many as there is room for.
 pub fn write(a: Answer, answer: &mut [u32])
     requires { ⌜ Small a ⌝ }
-    ensures { λ _. ⌜ now (answer .exit) ≡ sets (now (answer .entry)) 0 (numbers a) ⌝ }
+    ensures { λ _. ⌜ now (answer .exit) ≡ sets (now (answer .entry)) 0 (answerWords a) ⌝ }
 {
     put(answer, 0, a.verdict);
     put(answer, 1, a.position as u32);

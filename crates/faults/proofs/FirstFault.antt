@@ -20,9 +20,10 @@ use Rattle.table.specs.declared.Group.{Group}
 use Rattle.table.specs.Ids.{groupId}
 use Rattle.table.specs.Tables.{rowNumber, rowAt, maskOf, rowMasks}
 use Rattle.table.specs.Tables.{more}
-use Rattle.faults.specs.declared.Faults.{Faults}
-use Rattle.faults.specs.Faults.{firstRefusal, found, none, illegal, firstOf, unlessDefined, own, outside}
-use Rattle.table.proofs.Tables.{every-from, same, same-true, Known, ruled}
+use Rattle.table.proofs.Tables.{Known, ruled}
+use Rattle.values.specs.declared.Faults.{Faults}
+use Rattle.values.specs.First.{firstRefusal, found, none, firstOf}
+use Rattle.faults.specs.Faults.{unlessDefined, own, outside}
 
 -- every bit is defined under the mask of all bits
 ones : (k w : ℕ) → lowest k w (2 ^ k - 1) ≡ k
@@ -49,32 +50,6 @@ no-case false false false false w x y z e f = refl
 unruled-values : (id h : ℕ) (ws : List ℕ) → ruled id ≡ false → valueFaults id h ws ≡ []
 unfolding valueFaults
 unruled-values id h ws e = no-case (eqb id 0x40) (eqb id 0x48) (eqb id 0x84) (eqb id 0x88) _ _ _ _ [] e
-
--- "3, 4, 6 and 7 are illegal", and of the others two codes, 0 and 5, have no third and fourth words: as the code asks it
-codeTest : ℕ → Bool
-codeTest code =
-    let illegal = (eqb code 3 || eqb code 4) || leb 6 code in
-    same (ltb 2 code && not (eqb code 5)) illegal && (illegal || same (not (eqb code 1) && not (eqb code 2)) (eqb code 0 || eqb code 5))
-
-code-test : (code : ℕ) → code < 8 → codeTest code ≡ true
-unfolding codeTest
-code-test code h = ap codeTest (sym (zero-add code)) ∙ every-from 8 0 codeTest refl code h
-
--- an illegal code is refused in the first word, so that of it the third and fourth words do not matter
-legal-bare : (i b′ b s t f : Bool) (next : Refusal) → (i || same b′ b) ≡ true → illegal i s (b′ && t) (b′ && f) next ≡ illegal i s (b && t) (b && f) next
-legal-bare true b′ b s t f next e = refl
-legal-bare false b′ b s t f next e = ap (λ (x : Bool). illegal false s (x && t) (x && f) next) (same-true b′ b e)
-
-pub load-first : (code : ℕ) → code < 8 → (s t f : Bool) (next : Refusal)
-    → illegal (ltb 2 code && not (eqb code 5)) s ((not (eqb code 1) && not (eqb code 2)) && t) ((not (eqb code 1) && not (eqb code 2)) && f) next
-    ≡ illegal ((eqb code 3 || eqb code 4) || leb 6 code) s ((eqb code 0 || eqb code 5) && t) ((eqb code 0 || eqb code 5) && f) next
-unfolding codeTest
-load-first code h s t f next =
-    let b′ : Bool = not (eqb code 1) && not (eqb code 2) in
-    let i : Bool = (eqb code 3 || eqb code 4) || leb 6 code in
-    let first : (ltb 2 code && not (eqb code 5)) ≡ i = same-true (ltb 2 code && not (eqb code 5)) i (and-left (same (ltb 2 code && not (eqb code 5)) i) _ (code-test code h)) in
-    ap (λ (x : Bool). illegal x s (b′ && t) (b′ && f) next) first
-    ∙ legal-bare i b′ (eqb code 0 || eqb code 5) s t f next (and-right (same (ltb 2 code && not (eqb code 5)) i) _ (code-test code h))
 
 -- the faults of a command with one word, and with four
 module _ (r : Row) (h a b c : ℕ) (m₀ m₁ m₂ m₃ : ℕ) where

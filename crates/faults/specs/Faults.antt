@@ -1,35 +1,14 @@
--- The first fault of a command, as a refusal; number 0 where there is none.
+-- A command's words against the masks of its row.
 use Prim.Native.Nat.{ℕ}
-use mathlib.Core.Bool.{Bool, cond, not, _||_}
-use mathlib.Core.List.{List, [], _∷_}
-use lib.Dec.{eqb}
+use mathlib.Core.Bool.{Bool, cond, _||_}
+use mathlib.Core.List.{List}
 use lib.ListN.{length, take}
 use Rattle.rules.specs.declared.Refusal.{Refusal}
 use Rattle.rules.specs.Word.{undefined}
 use Rattle.rules.specs.Table.{Row}
-use Rattle.rules.specs.Values.{refusal, undefinedBit, Fault}
+use Rattle.rules.specs.Values.{undefinedBit}
 use Rattle.table.specs.declared.Group.{Group}
 use Rattle.table.specs.Tables.{more}
-use Rattle.faults.specs.declared.Faults.{Faults}
-
-abbrev pub none : Refusal
-none = refusal 0 0
-
-abbrev pub firstRefusal : List Fault → Refusal
-firstRefusal [] = none
-firstRefusal (f ∷ fs) = cond (f .found) (f .why) (firstRefusal fs)
-
--- there is one
-abbrev pub found : Refusal → Bool
-found f = not (eqb (f .number) 0)
-
--- 7 at the first of four words with an illegal value
-abbrev pub illegal : Bool → Bool → Bool → Bool → Refusal → Refusal
-illegal a b c d next = cond a (refusal 7 0) (cond b (refusal 7 1) (cond c (refusal 7 2) (cond d (refusal 7 3) next)))
-
--- the first of the rules on values that a command breaks
-abbrev pub firstOf : Faults → Refusal
-firstOf f = illegal (f .first) (f .second) (f .third) (f .fourth) (refusal (f .clash) 0)
 
 -- 6 of word i, where it has an undefined bit
 abbrev pub unlessDefined : ℕ → ℕ → ℕ → Refusal → Refusal

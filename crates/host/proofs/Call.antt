@@ -14,7 +14,7 @@ use Rattle.rules.specs.Records.{records, recordWords}
 use Rattle.rules.specs.Form.{form}
 use Rattle.rules.specs.declared.Refusal.{Refusal}
 use Rattle.rules.specs.Values.{refusal}
-use Rattle.rules.specs.Answer.{Outcome, refusedAnswer, accept, fitting, room, readParsed, writeParsed, reading, normalising}
+use Rattle.rules.specs.Answer.{Outcome, answerWords, refusedAnswer, accept, fitting, room, readParsed, writeParsed, reading, normalising}
 use Rattle.rules.specs.Pci.{pairsAll, values, parsePairs, toPci, fromPci}
 use Rattle.rules.proofs.Numbers.{RefusesList, parse-refuses}
 use Rattle.rules.proofs.Verdict.{length-recordWords}
@@ -22,7 +22,7 @@ use Rattle.rules.proofs.Parse.{parse-accepted}
 use Rattle.rules.proofs.Form.{form-fits}
 use Rattle.rules.proofs.Records.{records-few}
 use Rattle.rules.proofs.Pci.{pairs-length, pairs-carry, pairs-refuses}
-use Rattle.answer.specs.Numbers.{Small, numbers}
+use Rattle.answer.specs.Small.{Small}
 use Rattle.host.specs.Call.{callResult}
 
 small-refused : (f : Refusal) → f .word ≤ 16384 → Small (refusedAnswer f)
@@ -75,6 +75,6 @@ from-pci-small ps image buffer e =
     rw e (small-write (values ps) image buffer (λ cs. values ps) (parsePairs image ps) (pairs-refuses image ps)
     (λ cs p. (pairs-carry image ps cs p .parsed, omega arith)))
 
-pub call-result : {o p : Outcome} {after : List ℕ} (answer : List ℕ) → o ≡ p → after ≡ sets answer 0 (numbers (o .answer))
+pub call-result : {o p : Outcome} {after : List ℕ} (answer : List ℕ) → o ≡ p → after ≡ sets answer 0 (answerWords (o .answer))
     → record { verdict = o .answer .verdict; image = o .image; buffer = o .buffer; answer = after } ≡ callResult p answer
 call-result answer e t = rw t (ap (λ (x : Outcome). callResult x answer) e)

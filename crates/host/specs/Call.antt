@@ -2,8 +2,7 @@
 use Prim.Native.Nat.{ℕ}
 use mathlib.Core.List.{List}
 use lib.Seq.{sets}
-use Rattle.rules.specs.Answer.{Outcome}
-use Rattle.answer.specs.Numbers.{numbers}
+use Rattle.rules.specs.Answer.{Outcome, answerWords}
 
 -- what a call returns, and the lent words after it
 pub record CallResult : Type 0 where
@@ -15,4 +14,4 @@ pub record CallResult : Type 0 where
 -- the verdict is returned, and the answer's words get the six numbers, as many as there are words
 abbrev pub callResult : Outcome → List ℕ → CallResult
 callResult o answer =
-    record { verdict = o .answer .verdict; image = o .image; buffer = o .buffer; answer = sets answer 0 (numbers (o .answer)) }
+    record { verdict = o .answer .verdict; image = o .image; buffer = o .buffer; answer = sets answer 0 (answerWords (o .answer)) }

@@ -1,7 +1,7 @@
 -- The whole answers of the reader and the normaliser (document 01, "Verdicts and what stays").
 use Prim.Native.Nat.{ℕ, _/_}
 use mathlib.Core.Bool.{Bool, cond}
-use mathlib.Core.List.{List, [], _++_}
+use mathlib.Core.List.{List, [], _∷_, _++_}
 use lib.Dec.{eqb, ltb}
 use lib.ListN.{length, take, drop}
 use Rattle.rules.specs.declared.Answer.{Answer}
@@ -13,6 +13,11 @@ use Rattle.rules.specs.Image.{final}
 use Rattle.rules.specs.Records.{records, recordWords}
 use Rattle.rules.specs.Effect.{Effect, effect}
 use Rattle.rules.specs.Form.{form}
+
+-- "The answer has verdict, position, commands, records, and words written to the lent buffer." "With 6, the answer now
+-- also gives the number of the lowest undefined bit": the sixth.
+abbrev pub answerWords : Answer → List ℕ
+answerWords a = a .verdict ∷ a .position ∷ a .commands ∷ a .records ∷ a .words ∷ a .bit ∷ []
 
 -- what a call returns, and the image and the lent buffer after it
 pub record Outcome : Type 0 where

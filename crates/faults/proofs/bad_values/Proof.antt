@@ -1,7 +1,7 @@
 use mathlib.Core.Path.{ap, _∙_}
 use borrow.Author.Tests.{ne-eqb}
 use Rattle.rules.specs.Values.{valueFaults}
-use Rattle.faults.specs.Faults.{found}
+use Rattle.values.specs.First.{found}
 use borrow.Author.Needs.{needs}
 use Rattle.faults.proofs.bad_values.Statement.{statement}
 use Rattle.faults.proofs.bad_values.Tie as tie

@@ -1,6 +1,6 @@
 use borrow.Author.Needs.{needs}
-use Rattle.faults.proofs.clip_faults.Statement.{statement}
-use Rattle.faults.proofs.clip_faults.Tie as tie
+use Rattle.values.proofs.clip_faults.Statement.{statement}
+use Rattle.values.proofs.clip_faults.Tie as tie
 
 returns : tie.Need-returns
 returns c = rw (c .clash2 .ensures, c .before .before .clash .ensures, c .before .page-limit .ensures)

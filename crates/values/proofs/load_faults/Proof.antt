@@ -5,12 +5,12 @@ use mathlib.Core.Bool.{cond, not, _&&_}
 use lib.Dec.{eqb, ltb}
 use Rattle.rules.specs.declared.Refusal.{Refusal}
 use Rattle.rules.specs.Values.{refusal}
-use Rattle.faults.specs.Faults.{none}
+use Rattle.values.specs.First.{none}
 use Rattle.rules.specs.Word.{bits}
-use Rattle.faults.proofs.FirstFault.{load-first}
+use Rattle.values.proofs.Load.{load-first}
 use borrow.Author.Needs.{needs}
-use Rattle.faults.proofs.load_faults.Statement.{statement}
-use Rattle.faults.proofs.load_faults.Tie as tie
+use Rattle.values.proofs.load_faults.Statement.{statement}
+use Rattle.values.proofs.load_faults.Tie as tie
 
 returns : tie.Need-returns
 returns c =

@@ -1,6 +1,6 @@
 use borrow.Author.Tests.{ne-eqb}
-use Rattle.faults.proofs.page_limit.Statement.{statement}
-use Rattle.faults.proofs.page_limit.Tie as tie
+use Rattle.values.proofs.page_limit.Statement.{statement}
+use Rattle.values.proofs.page_limit.Tie as tie
 
 returns : tie.Need-returns
 returns c = rw (c .match .keys1)

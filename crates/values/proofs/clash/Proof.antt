@@ -1,5 +1,5 @@
-use Rattle.faults.proofs.clash.Statement.{statement}
-use Rattle.faults.proofs.clash.Tie as tie
+use Rattle.values.proofs.clash.Statement.{statement}
+use Rattle.values.proofs.clash.Tie as tie
 
 returns : tie.Need-returns
 returns c = rw (c .if1 .taken)
