@@ -1,6 +1,7 @@
 -- The pass over an accepted list: what is written is the form so far, and the rest of the form is to come.
 use Prim.Native.Nat.{ℕ, zero, suc, _+_, _^_, _≤_, _<_}
-use native.Mathlib.Nat.{zero-add}
+use native.Mathlib.Nat.{add-zero, zero-add}
+use native.Mathlib.Numerals.{add-one}
 use native.Mathlib.Omega.{arith}
 use native.Mathlib.Decide.{ℕ-discrete}
 use mathlib.Core.Path.{_≡_, refl, ap, ap₂, sym, _∙_, subst}
@@ -10,10 +11,9 @@ use mathlib.Core.List.{List, [], _∷_, _++_, append-assoc, append-nil}
 use mathlib.Core.Option.{Option, none, some}
 use lib.Bits.{bitOr}
 use lib.Dec.{eqb}
-use lib.ListN.{length, getD, set, length-append, length-set}
-use lib.Seq.{sets, getD-set-same, getD-set-other}
+use lib.ListN.{length, getD, set, drop, length-append, length-set}
+use lib.Seq.{sets, getD-set-same, getD-set-other, getD-drop, drop-drop}
 use borrow.Author.Tests.{not-true, not-false, eq-eqb, ne-eqb}
-use Rattle.rules.specs.Word.{idOf}
 use Rattle.rules.specs.Table.{Row, size, isSetting, settings}
 use Rattle.rules.specs.Command.{Command, words, wordsAll}
 use Rattle.rules.specs.Walk.{accepted, parse}
@@ -31,62 +31,20 @@ use Rattle.table.specs.Ids.{settingId, settingKind}
 use Rattle.command.specs.View.{sizeAt}
 use Rattle.table.proofs.Tables.{setting-is}
 use Rattle.list.specs.Effects.{idAt, CommandAt}
-use Rattle.list.proofs.Effects.{no-kind, is-group, is-single}
 use Rattle.list.proofs.Position.{Position, position-start, position-end, AtCommand, after, at-command, command-at}
-use Rattle.form.specs.declared.Draft.{Draft}
 use Rattle.settings.specs.Numbers.{holds, numberOf}
 use Rattle.settings.specs.Output.{longest, Output, emitChanged, CanEmitChanged}
-use Rattle.form.specs.Drafts.{Drafted, outputOf, afterSetting, afterWork, afterCommand, CanWork, CanTake}
+use Rattle.draft.specs.Drafts.{Drafted, outputOf, afterSetting, afterWork, afterCommand, CanWork, CanTake}
 use Rattle.settings.proofs.Numbers.{holds-put, holds-other, holds-none, settingOf, setting-of, number-of}
-use Rattle.form.proofs.Copying.{read-words}
 use Rattle.settings.proofs.Emitting.{SetAt, set-cong, sent-cong, LatestAt, Latest, Progress, emit-all}
 
--- ---- what a command does
-
-module _ (l image : List ℕ) (s : Drafted) (h : CanTake l image s) (w id kind : ℕ) (ew : w ≡ getD l (s .draft .at) 0) (ei : id ≡ idOf w) (ek : kind ≡ settingKind id) where
-  id-is : id ≡ idAt l (s .draft .at)
-  id-is = ei ∙ ap idOf ew
-
-  kind-is : settingKind (idAt l (s .draft .at)) ≡ kind
-  kind-is = sym (ek ∙ ap settingKind id-is)
-
-  pub setting-number : (kind ≡ 0 → ⊥) → numberOf id < 64
-  setting-number f = omega (arith, h .number (λ z. f (sym kind-is ∙ z)), ap numberOf id-is)
-
-  pub group-size : kind ≡ 2 → sizeAt l (s .draft .at) ≡ 4
-  group-size e = is-group l (s .draft .at) (h .command) (kind-is ∙ e) .size
-
-  pub single-size : kind ≡ 1 → sizeAt l (s .draft .at) ≡ 1
-  single-size e = is-single l (s .draft .at) (h .command) (kind-is ∙ e) .size
-
-  pub took-setting : (kind ≡ 0 → ⊥) → (words : ℕ) → sizeAt l (s .draft .at) ≡ words → (d : Draft) (latest : List ℕ)
-      → d ≡ record { at = s .draft .at + words; written = s .draft .written; changed = bitOr (s .draft .changed) (2 ^ numberOf id) }
-      → latest ≡ set (s .latest) (numberOf id) (s .draft .at)
-      → record { draft = d; latest = latest; sent = s .sent; out = s .out } ≡ afterCommand l image s
-  unfolding afterCommand
-  took-setting f words es d latest ed el = rw (kind-is, ne-eqb kind 0 f, es, ← id-is, ed, el)
-
-  module _ (f : kind ≡ 2 → ⊥) (g : kind ≡ 1 → ⊥) where
-    no-setting : settingKind (idAt l (s .draft .at)) ≡ 0
-    no-setting = no-kind (idAt l (s .draft .at)) (λ z. f (sym kind-is ∙ z)) (λ z. g (sym kind-is ∙ z))
-
-    pub can-work-now : CanWork l image s
-    can-work-now = h .work no-setting
-
-    pub took-work : afterWork l image s ≡ afterCommand l image s
-    unfolding afterCommand
-    took-work = rw no-setting
-
--- a work command, by what its parts did
-pub worked : (l image : List ℕ) (s : Drafted) (o : Output) (words : ℕ) (out : List ℕ) → words ≡ sizeAt l (s .draft .at)
-    → o ≡ emitChanged (s .draft .changed) l image (s .latest) (outputOf s) → out ≡ sets (o .out) (o .written) (read l (s .draft .at) words)
-    → record {
-      draft = record { at = s .draft .at + words; written = o .written + words; changed = 0 };
-      latest = s .latest;
-      sent = o .sent;
-      out = out;
-    } ≡ afterWork l image s
-worked l image s o words out es eo e = rw (e, es) (rw eo)
+-- the words at a position
+read-words : (l : List ℕ) (at : ℕ) (ws tail : List ℕ) → drop at l ≡ ws ++ tail → read l at (length ws) ≡ ws
+read-words l at [] tail e = refl
+read-words l at (w ∷ ws) tail e =
+    let first : getD l at 0 ≡ w = rw add-zero at (sym (getD-drop at l 0 0)) ∙ ap (λ (x : List ℕ). getD x 0 0) e in
+    let rest : drop (suc at) l ≡ ws ++ tail = rw (← add-one at) (sym (drop-drop 1 at l) ∙ ap (drop 1) e) in
+    ap₂ {C = List ℕ} (λ x xs. x ∷ xs) first (read-words l (suc at) ws tail rest)
 
 -- ---- the loop
 

@@ -1,118 +1,15 @@
 // The normal form of a list: the normaliser.
 //
-// A setting's words still stand in the list, so the pass remembers where each was last set (`latest`) and sent (`sent`), as
-// crates/settings has them. A form is measured by writing it to an empty part of the buffer.
+// A form is measured by writing it to an empty part of the buffer.
+use draft::Draft;
 use list::Walked;
 use rules::Answer;
-use table::Settings;
 ghost use mathlib.Core.Path.{_≡_};
-ghost use Prim.Native.Nat.{_+_, _-_, _^_, _<_, _≤_, min};
-ghost use lib.Bits.{bitOr};
 ghost use lib.Dec.{ltb};
-ghost use lib.ListN.{length, set};
+ghost use lib.ListN.{length};
 ghost use lib.Seq.{sets};
-ghost use Rattle.rules.specs.Form.{read};
 ghost use Rattle.rules.specs.Walk.{parse, accepted};
 ghost use Rattle.rules.specs.Answer.{normalising, normalForm, commandsOf};
-ghost use Rattle.settings.specs.Numbers.{numberOf};
-ghost use Rattle.settings.specs.Output.{longest};
-ghost use Rattle.form.specs.Drafts.{afterWork, afterCommand, CanWork, CanTake};
-
-// Where the form stands: the position in the list, the words written, and the settings set since the last work command.
-pub struct Draft {
-    pub at: usize,
-    pub written: usize,
-    pub changed: u64,
-}
-
-// As many of some words as a buffer has room for from a position on.
-fn room_for(words: usize, n: usize, len: usize) -> usize
-    requires { ⌜ (n ≤ longest) × (words ≤ longest) ⌝ }
-    ensures { λ r. ⌜ r ≡ min words (len - n) ⌝ }
-{
-    if n + words <= len {
-        return words;
-    }
-    if n < len {
-        return len - n;
-    }
-    0
-}
-
-// Some words of a list.
-fn copy(list: &[u32], at: usize, words: usize, out: &mut [u32], n: usize)
-    requires { ⌜ (length (now list) ≤ longest) × (at + words ≤ length (now list)) × (n ≤ longest) ⌝ }
-    ensures { λ _. ⌜ now (out .exit) ≡ sets (now (out .entry)) n (read (now (list .entry)) at words) ⌝ }
-{
-    let m = room_for(words, n, out.len());
-    let mut i: usize = 0;
-    while i < m {
-        out[n + i] = words::fetch(list, at + i);
-        i += 1;
-    }
-}
-
-// ---- the pass over an accepted list
-
-// A work command: the differing settings, then the command unchanged.
-fn emit_work(
-    list: &[u32],
-    image: &[u32],
-    d: Draft,
-    latest: &[u16; 64],
-    sent: &mut [u16; 64],
-    out: &mut [u32],
-) -> Draft
-    requires { ⌜ CanWork (now list) (now image) (record { draft = d; latest = now latest; sent = now sent; out = now out }) ⌝ }
-    ensures { λ r. ⌜ record { draft = r; latest = now (latest .entry); sent = now (sent .exit); out = now (out .exit) } ≡ afterWork (now (list .entry)) (now (image .entry)) (record { draft = d; latest = now (latest .entry); sent = now (sent .entry); out = now (out .entry) }) ⌝ }
-{
-    let at = d.at;
-    let words = command::command_size(list, at);
-    let n = settings::emit_changed(d.changed, list, image, latest, sent, out, d.written);
-    copy(list, at, words, out, n);
-    Draft {
-        at: at + words,
-        written: n + words,
-        changed: 0,
-    }
-}
-
-// A setting: its command is the latest of its number, which is below 64, rises with the id, and is below 16 for one word.
-fn take_setting(d: Draft, id: u8, words: usize, latest: &mut [u16; 64]) -> Draft
-    requires { ⌜ (d .at ≤ longest) × (words ≤ 4) × (numberOf id < 64) ⌝ }
-    ensures { λ r. ⌜ (r ≡ record { at = d .at + words; written = d .written; changed = bitOr (d .changed) (2 ^ numberOf id) }) × (now (latest .exit) ≡ set (now (latest .entry)) (numberOf id) (d .at)) ⌝ }
-{
-    let i = (id / 4 + id % 2) as u32;
-    latest[i as usize] = d.at as u16;
-    Draft {
-        at: d.at + words,
-        written: d.written,
-        changed: d.changed | (1 << i),
-    }
-}
-
-// One command of an accepted list.
-fn take_command(
-    list: &[u32],
-    image: &[u32],
-    d: Draft,
-    latest: &mut [u16; 64],
-    sent: &mut [u16; 64],
-    out: &mut [u32],
-) -> Draft
-    requires { ⌜ CanTake (now list) (now image) (record { draft = d; latest = now latest; sent = now sent; out = now out }) ⌝ }
-    ensures { λ r. ⌜ record { draft = r; latest = now (latest .exit); sent = now (sent .exit); out = now (out .exit) } ≡ afterCommand (now (list .entry)) (now (image .entry)) (record { draft = d; latest = now (latest .entry); sent = now (sent .entry); out = now (out .entry) }) ⌝ }
-{
-    let id = words::id_of(words::fetch(list, d.at));
-    let kind = Settings::kind(id);
-    if kind == Settings::GROUP {
-        return take_setting(d, id, 4, latest);
-    }
-    if kind == Settings::SINGLE {
-        return take_setting(d, id, 1, latest);
-    }
-    emit_work(list, image, d, latest, sent, out)
-}
 
 // The form of an accepted list, written as far as the buffer goes, and its length.
 fn form(list: &[u32], image: &[u32], out: &mut [u32]) -> usize
@@ -127,12 +24,10 @@ fn form(list: &[u32], image: &[u32], out: &mut [u32]) -> usize
         changed: 0,
     };
     while d.at < list.len() {
-        d = take_command(list, image, d, &mut latest, &mut sent, out);
+        d = draft::take_command(list, image, d, &mut latest, &mut sent, out);
     }
     settings::emit_changed(d.changed, list, image, &latest, &mut sent, out, d.written)
 }
-
-// ---- the normaliser
 
 // A form never has more words than its list; else it is measured.
 fn too_small(list: &[u32], image: &[u32], out: &mut [u32]) -> bool

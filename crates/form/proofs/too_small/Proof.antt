@@ -5,7 +5,7 @@ use mathlib.Core.List.{List, [], _++_}
 use lib.Dec.{ltb}
 use lib.ListN.{length}
 use Rattle.rules.specs.Answer.{normalForm}
-use Rattle.form.proofs.Copying.{sets-past}
+use Rattle.draft.proofs.Copying.{sets-past}
 use mathlib.Core.Path.{sym, refl, ap, _∙_}
 use Rattle.form.proofs.Normalising.{form-room}
 use borrow.Author.Needs.{needs}

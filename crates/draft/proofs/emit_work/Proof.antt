@@ -2,10 +2,10 @@ use native.Mathlib.Omega.{arith}
 use mathlib.Core.Path.{ap}
 use Rattle.list.proofs.Effects.{own-at}
 use Rattle.settings.specs.Output.{Output}
-use Rattle.form.proofs.Forming.{worked}
+use Rattle.draft.proofs.Taking.{worked}
 use borrow.Author.Needs.{needs}
-use Rattle.form.proofs.emit_work.Statement.{statement}
-use Rattle.form.proofs.emit_work.Tie as tie
+use Rattle.draft.proofs.emit_work.Statement.{statement}
+use Rattle.draft.proofs.emit_work.Tie as tie
 
 returns : tie.Need-returns
 returns c =

@@ -11,7 +11,7 @@ use Rattle.rules.specs.Form.{read}
 use Rattle.table.specs.Ids.{settingKind}
 use Rattle.command.specs.View.{sizeAt}
 use Rattle.list.specs.Effects.{idAt, CommandAt}
-use Rattle.form.specs.declared.Draft.{Draft}
+use Rattle.draft.specs.declared.Draft.{Draft}
 use Rattle.settings.specs.Numbers.{numberOf}
 use Rattle.settings.specs.Output.{longest, Output, emitChanged, CanEmitChanged}
 

@@ -1,8 +1,8 @@
 use mathlib.Core.Path.{refl}
 use Rattle.settings.proofs.Numbers.{bit-of}
 use borrow.Author.Needs.{needs}
-use Rattle.form.proofs.take_setting.Statement.{statement}
-use Rattle.form.proofs.take_setting.Tie as tie
+use Rattle.draft.proofs.take_setting.Statement.{statement}
+use Rattle.draft.proofs.take_setting.Tie as tie
 
 returns : tie.Need-returns
 returns c = (rw (bit-of _ (c .before .before .before .pre .2)), refl)

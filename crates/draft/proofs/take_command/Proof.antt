@@ -1,9 +1,9 @@
 use native.Mathlib.Omega.{arith}
 use mathlib.Core.Path.{_∙_}
-use Rattle.form.proofs.Forming.{setting-number, group-size, single-size, took-setting, took-work, can-work-now}
+use Rattle.draft.proofs.Taking.{setting-number, group-size, single-size, took-setting, took-work, can-work-now}
 use borrow.Author.Needs.{needs}
-use Rattle.form.proofs.take_command.Statement.{statement}
-use Rattle.form.proofs.take_command.Tie as tie
+use Rattle.draft.proofs.take_command.Statement.{statement}
+use Rattle.draft.proofs.take_command.Tie as tie
 
 take-setting-requires : tie.Need-take-setting-requires
 take-setting-requires c κs =

@@ -7,9 +7,9 @@ use lib.ListN.{length, set, length-set}
 use lib.Seq.{sets}
 use Rattle.rules.specs.Form.{read}
 use Rattle.rules.proofs.Image.{copied-on}
-use Rattle.form.proofs.Copying.{copied-all}
-use Rattle.form.proofs.copy.Statement.{statement}
-use Rattle.form.proofs.copy.Tie as tie
+use Rattle.draft.proofs.Copying.{copied-all}
+use Rattle.draft.proofs.copy.Statement.{statement}
+use Rattle.draft.proofs.copy.Tie as tie
 
 abbrev Inv-loop : tie.InvT-loop
 Inv-loop list at words out₀ n m i₀ out i = (i ≤ m) × (out ≡ sets out₀ n (read list at i)) × (length out ≡ length out₀)
