@@ -28,7 +28,8 @@ use Rattle.list.specs.declared.Walked.{Walked}
 use Rattle.list.specs.declared.Walked.the-variants as walked
 use Rattle.list.specs.View.{origin, after, taken, stepAt, walkedOf, InsideAfter}
 use Rattle.list.proofs.Steps.{step-taken, inside-after, Walking, walking-start, walking-stop, walking-on, walking-end}
-use Rattle.places.specs.View.{addresses, placed, orElse, misplacedFrom}
+use Rattle.pairs.specs.View.{addresses}
+use Rattle.places.specs.View.{placed, orElse, misplacedFrom}
 use Rattle.pci_reader.specs.View.{Met, Stepped}
 use Rattle.places.proofs.Places.{placed-add, placed-again, none-behind, command-passes, command-in-place}
 

@@ -26,9 +26,9 @@ fn decode_single(pairs: &[u32], at: usize, id: u8, row: u8) -> Decoded
     ensures { λ r. ⌜ Met (now (pairs .entry)) at r ⌝ }
 {
     let m = table::masks_of(row);
-    let header = words::header_of(places::value_at(pairs, at));
+    let header = words::header_of(pairs::value_at(pairs, at));
     let undefined = faults::undefined(header, m.header);
-    if (places::address_at(pairs, at) != places::address(id, 0)) | undefined {
+    if (pairs::address_at(pairs, at) != pairs::address(id, 0)) | undefined {
         return command::refused_fault(at, faults::first_fault(row, id, header, 0, 0, 0));
     }
     command::single_command(row)
@@ -42,7 +42,7 @@ fn decode_group(pairs: &[u32], at: usize, id: u8, row: u8) -> Decoded
     if pairs.len() / 2 - at < 4 {
         return command::refused(5, at);
     }
-    let g = places::group_at(pairs, at);
+    let g = pairs::group_at(pairs, at);
     if !places::group_placed(pairs, at, id) | faults::undefined_bits(row, g) {
         return command::refused_fault(
             at,
@@ -70,7 +70,7 @@ fn step(rows: &[u8; 256], pairs: &[u32], c: Cursor) -> Step
     requires { ⌜ Counted c × (c .at < length (values (now pairs))) × (now rows ≡ rowTable) ⌝ }
     ensures { λ r. ⌜ Stepped (now (pairs .entry)) c r ⌝ }
 {
-    let id = words::id_of(places::value_at(pairs, c.at));
+    let id = words::id_of(pairs::value_at(pairs, c.at));
     let row = rows[id as usize];
     if table::UNKNOWN <= row {
         return c.take(command::refused(command::unknown(id), c.at));
@@ -119,7 +119,7 @@ fn write_values(pairs: &[u32], list: &mut [u32])
 {
     let mut i: usize = 0;
     while i < pairs.len() / 2 {
-        list[i] = places::value_at(pairs, i);
+        list[i] = pairs::value_at(pairs, i);
         i += 1;
     }
 }

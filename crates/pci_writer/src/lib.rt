@@ -19,7 +19,7 @@ fn write_single(list: &[u32], pairs: &mut [u32], at: usize, id: u8)
     requires { ⌜ (at < length (now list)) × (2 * at + 2 ≤ length (now pairs)) ⌝ }
     ensures { λ _. ⌜ now (pairs .exit) ≡ sets (now (pairs .entry)) (2 * at) (pairsFrom id 0 (read (now (list .entry)) at 1)) ⌝ }
 {
-    pairs[2 * at] = places::address(id, 0);
+    pairs[2 * at] = pairs::address(id, 0);
     pairs[2 * at + 1] = words::fetch(list, at);
 }
 
@@ -35,17 +35,17 @@ fn write_group(list: &[u32], pairs: &mut [u32], at: usize, id: u8)
     words::put4(
         pairs,
         2 * at,
-        places::address(id, 0),
+        pairs::address(id, 0),
         a,
-        places::address(id, 1),
+        pairs::address(id, 1),
         b,
     );
     words::put4(
         pairs,
         2 * at + 4,
-        places::address(id, 2),
+        pairs::address(id, 2),
         c,
-        places::address(id, 3),
+        pairs::address(id, 3),
         d,
     );
 }
@@ -57,7 +57,7 @@ fn write_words(list: &[u32], pairs: &mut [u32], at: usize, words: usize, id: u8)
 {
     let mut i: usize = 0;
     while i < words {
-        pairs[2 * (at + i)] = places::address(id, i);
+        pairs[2 * (at + i)] = pairs::address(id, i);
         pairs[2 * (at + i) + 1] = words::fetch(list, at + i);
         i += 1;
     }

@@ -1,5 +1,5 @@
--- The pairs of a buffer by their numbers, and where each is expected.
-use Prim.Native.Nat.{ℕ, zero, suc, _+_, _*_, _-_, _/_, _%_, _^_, _≤_, _<_}
+-- Where each pair of a buffer is expected.
+use Prim.Native.Nat.{ℕ, zero, suc, _+_, _*_, _-_, _%_, _≤_, _<_}
 use native.Mathlib.Nat.{add-zero, zero-add}
 use native.Mathlib.Numerals.{add-one, add-two, add-three}
 use native.Mathlib.Omega.{arith}
@@ -25,7 +25,8 @@ use Rattle.table.specs.Ids.{groupId}
 use Rattle.table.specs.Tables.{more}
 use Rattle.command.specs.View.{groupAt, sizeAt}
 use Rattle.command.proofs.Decoding.{size-group, size-least, size-single}
-use Rattle.places.specs.View.{addresses, behind, placed, misplacedFrom, Sized, Leading}
+use Rattle.pairs.specs.View.{addresses}
+use Rattle.places.specs.View.{behind, placed, misplacedFrom, Sized, Leading}
 
 and-assoc : (a b c : Bool) → ((a && b) && c) ≡ (a && (b && c))
 and-assoc true b c = refl
@@ -41,35 +42,9 @@ and-four true true c false = refl
 and-four true false c d = refl
 and-four false b c d = refl
 
--- ---- pairs by their numbers
+-- ---- the pairs from a number on
 
-pub pair-count : (ps : List ℕ) → length (values ps) ≡ length ps / 2
-pair-count [] = refl
-pair-count (a ∷ []) = refl
-pair-count (a ∷ v ∷ ps) = omega (arith, pair-count ps)
-
-pub address-count : (ps : List ℕ) → length (addresses ps) ≡ length (values ps)
-address-count [] = refl
-address-count (a ∷ []) = refl
-address-count (a ∷ v ∷ ps) = ap suc (address-count ps)
-
-pub value-of : (ps : List ℕ) (at : ℕ) → at < length (values ps) → getD ps (2 * at + 1) 0 ≡ getD (values ps) at 0
-value-of [] at h = absurd (omega arith)
-value-of (a ∷ []) at h = absurd (omega arith)
-value-of (a ∷ v ∷ ps) zero h = refl
-value-of (a ∷ v ∷ ps) (suc at) h =
-    let i : 2 * suc at + 1 ≡ suc (suc (2 * at + 1)) = omega arith in
-    ap (λ (k : ℕ). getD (a ∷ v ∷ ps) k 0) i ∙ value-of ps at (omega arith)
-
-pub address-of : (ps : List ℕ) (at : ℕ) → at < length (values ps) → getD ps (2 * at) 0 ≡ getD (addresses ps) at 0
-address-of [] at h = absurd (omega arith)
-address-of (a ∷ []) at h = absurd (omega arith)
-address-of (a ∷ v ∷ ps) zero h = refl
-address-of (a ∷ v ∷ ps) (suc at) h =
-    let i : 2 * suc at ≡ suc (suc (2 * at)) = omega arith in
-    ap (λ (k : ℕ). getD (a ∷ v ∷ ps) k 0) i ∙ address-of ps at (omega arith)
-
--- the pairs from a number on: the pair there, and the others
+-- the pair there, and the others
 behind-pair : (ps : List ℕ) (at : ℕ) → at < length (values ps) → behind at ps ≡ getD (addresses ps) at 0 ∷ getD (values ps) at 0 ∷ behind (suc at) ps
 behind-pair [] at h = absurd (omega arith)
 behind-pair (a ∷ []) at h = absurd (omega arith)
@@ -81,10 +56,6 @@ behind-values ps zero = refl
 behind-values [] (suc at) = refl
 behind-values (a ∷ []) (suc at) = refl
 behind-values (a ∷ v ∷ ps) (suc at) = behind-values ps at
-
--- an id that a pair's value has
-pub id-small : (ps : List ℕ) (at id : ℕ) → at < length (values ps) → getD ps (2 * at + 1) 0 < 2 ^ 32 → id ≡ idOf (getD (values ps) at 0) → id < 256
-id-small ps at id h f e = omega (arith, value-of ps at h, f, e)
 
 -- ---- sizes
 

@@ -1,4 +1,4 @@
--- The pairs of a buffer, as the code has them.
+-- Where the pairs of a buffer are expected, as the code has it.
 use Prim.Native.Nat.{ℕ, zero, suc, _+_, _≤_, _<_}
 use mathlib.Core.Path.{_≡_}
 use mathlib.Core.Bool.{Bool, true, false, _&&_}
@@ -10,11 +10,7 @@ use Rattle.rules.specs.declared.Refusal.{Refusal}
 use Rattle.rules.specs.Form.{read}
 use Rattle.rules.specs.Pci.{address, values, misplaced, outside}
 use Rattle.command.specs.View.{sizeAt}
-
-abbrev pub addresses : List ℕ → List ℕ
-addresses [] = []
-addresses (a ∷ []) = []
-addresses (a ∷ v ∷ ps) = a ∷ addresses ps
+use Rattle.pairs.specs.View.{addresses}
 
 -- the pairs from number n on
 abbrev pub behind : ℕ → List ℕ → List ℕ

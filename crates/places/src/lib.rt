@@ -1,51 +1,17 @@
-// The pairs of a buffer: an address and a value each, and the place where each is expected (document 02, Ticket 1).
+// The place where each pair of a buffer is expected (document 02, Ticket 1).
 //
 // A pair is two words, address first. Pair `at` carries word `at` of a list.
 use rules::NO_BIT;
 use rules::Refusal;
-use table::Group;
 ghost use mathlib.Core.Path.{_≡_};
 ghost use mathlib.Core.Bool.{_&&_};
 ghost use Prim.Native.Nat.{_+_, _-_, _<_, _≤_};
 ghost use lib.Dec.{leb};
-ghost use lib.ListN.{length, getD};
+ghost use lib.ListN.{length};
 ghost use Rattle.rules.specs.Form.{read};
-ghost use Rattle.rules.specs.Pci.{address, values, misplaced, outside};
-ghost use Rattle.command.specs.View.{groupAt};
-ghost use Rattle.places.specs.View.{addresses, behind, placed, orElse, Sized, Leading};
-
-// The address of a command's word, counted from 0.
-pub fn address(id: u8, word: usize) -> u32
-    ensures { λ r. ⌜ r ≡ address id word ⌝ }
-{
-    0x2800 + (id as u32) * 4 + ((word % 4) as u32) * 4
-}
-
-pub fn address_at(pairs: &[u32], at: usize) -> u32
-    requires { ⌜ at < length (values (now pairs)) ⌝ }
-    ensures { λ r. ⌜ r ≡ getD (addresses (now (pairs .entry))) at 0 ⌝ }
-{
-    pairs[2 * at]
-}
-
-pub fn value_at(pairs: &[u32], at: usize) -> u32
-    requires { ⌜ at < length (values (now pairs)) ⌝ }
-    ensures { λ r. ⌜ r ≡ getD (values (now (pairs .entry))) at 0 ⌝ }
-{
-    pairs[2 * at + 1]
-}
-
-pub fn group_at(pairs: &[u32], at: usize) -> Group
-    requires { ⌜ at + 4 ≤ length (values (now pairs)) ⌝ }
-    ensures { λ r. ⌜ r ≡ groupAt (values (now (pairs .entry))) at ⌝ }
-{
-    Group {
-        header: words::header_of(value_at(pairs, at)),
-        second: value_at(pairs, at + 1),
-        third: value_at(pairs, at + 2),
-        fourth: value_at(pairs, at + 3),
-    }
-}
+ghost use Rattle.rules.specs.Pci.{values, misplaced, outside};
+ghost use Rattle.pairs.specs.View.{addresses};
+ghost use Rattle.places.specs.View.{behind, placed, orElse, Sized, Leading};
 
 // ---- pairs in place
 
@@ -54,10 +20,10 @@ pub fn group_placed(pairs: &[u32], at: usize, id: u8) -> bool
     requires { ⌜ at + 4 ≤ length (values (now pairs)) ⌝ }
     ensures { λ r. ⌜ r ≡ placed id 0 (read (addresses (now (pairs .entry))) at 4) ⌝ }
 {
-    let a = address_at(pairs, at) == address(id, 0);
-    let b = address_at(pairs, at + 1) == address(id, 1);
-    let c = address_at(pairs, at + 2) == address(id, 2);
-    let d = address_at(pairs, at + 3) == address(id, 3);
+    let a = pairs::address_at(pairs, at) == pairs::address(id, 0);
+    let b = pairs::address_at(pairs, at + 1) == pairs::address(id, 1);
+    let c = pairs::address_at(pairs, at + 2) == pairs::address(id, 2);
+    let d = pairs::address_at(pairs, at + 3) == pairs::address(id, 3);
     (a & b) & (c & d)
 }
 
@@ -72,7 +38,7 @@ pub fn payload_placed(pairs: &[u32], at: usize, words: usize, id: u8) -> bool
     let mut right = true;
     let mut i: usize = 0;
     while i < words {
-        right = right & (address_at(pairs, at + i) == address(id, i));
+        right = right & (pairs::address_at(pairs, at + i) == pairs::address(id, i));
         i += 1;
     }
     right
@@ -85,14 +51,14 @@ fn size_at(pairs: &[u32], at: usize) -> usize
     requires { ⌜ at < length (values (now pairs)) ⌝ }
     ensures { λ r. ⌜ Sized (values (now (pairs .entry))) at r ⌝ }
 {
-    let id = words::id_of(value_at(pairs, at));
+    let id = words::id_of(pairs::value_at(pairs, at));
     if !table::is_group(id) {
         return 1;
     }
     if pairs.len() / 2 - at < 4 {
         return 4;
     }
-    4 + command::payload(id, group_at(pairs, at))
+    4 + command::payload(id, pairs::group_at(pairs, at))
 }
 
 // How many pairs of a command, from its first on, are there and stand at its addresses.
@@ -106,7 +72,7 @@ fn leading(pairs: &[u32], at: usize, words: usize, id: u8) -> usize
         if n - at <= i {
             return i;
         }
-        if address_at(pairs, at + i) != address(id, i) {
+        if pairs::address_at(pairs, at + i) != pairs::address(id, i) {
             return i;
         }
         i += 1;
@@ -123,7 +89,7 @@ pub fn refuse_pairs(pairs: &[u32], start: usize, f: Refusal) -> Refusal
     let mut at = start;
     while at < n {
         let words = size_at(pairs, at);
-        let right = leading(pairs, at, words, words::id_of(value_at(pairs, at)));
+        let right = leading(pairs, at, words, words::id_of(pairs::value_at(pairs, at)));
         if right < words {
             if right < n - at {
                 return Refusal {

@@ -2,7 +2,7 @@ use native.Mathlib.Omega.{arith}
 use lib.ListN.{length}
 use borrow.Author.Tests.{lt-ltb, le-ltb, eq-eqb, ne-eqb}
 use Rattle.rules.specs.Pci.{values, parsePairs}
-use Rattle.places.proofs.Places.{pair-count}
+use Rattle.pairs.proofs.Pairs.{pair-count}
 use borrow.Author.Needs.{needs}
 use Rattle.pci_reader.proofs.check.Statement.{statement}
 use Rattle.pci_reader.proofs.check.Tie as tie

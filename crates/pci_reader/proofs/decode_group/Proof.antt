@@ -7,7 +7,7 @@ use borrow.Author.Tests.{not-true, not-false, le-leb}
 use Rattle.rules.specs.Pci.{values}
 use Rattle.command.proofs.Decoding.{fault-near, payload-few, undefined-fault, value-fault, group-clear, group-done}
 use Rattle.pci_reader.specs.View.{Met}
-use Rattle.places.proofs.Places.{pair-count}
+use Rattle.pairs.proofs.Pairs.{pair-count}
 use Rattle.pci_reader.proofs.Meeting.{neither, group-whole, group-bit, payload-there, payload-inside, group-passes}
 use borrow.Author.Needs.{needs}
 use Rattle.pci_reader.proofs.decode_group.Statement.{statement}

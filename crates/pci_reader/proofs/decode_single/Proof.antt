@@ -4,7 +4,7 @@ use borrow.Author.Tests.{not-false}
 use Rattle.rules.specs.Word.{headerOf}
 use Rattle.rules.specs.Pci.{values}
 use Rattle.command.proofs.Decoding.{fault-near, decoded-single-bad, decoded-single}
-use Rattle.places.proofs.Places.{pair-count}
+use Rattle.pairs.proofs.Pairs.{pair-count}
 use Rattle.pci_reader.specs.View.{Met}
 use Rattle.pci_reader.proofs.Meeting.{neither, single-bit, single-passes}
 use borrow.Author.Needs.{needs}

@@ -1,6 +1,6 @@
 use native.Mathlib.Omega.{arith}
 use mathlib.Core.Path.{sym, _∙_}
-use Rattle.places.proofs.Places.{pair-count}
+use Rattle.pairs.proofs.Pairs.{pair-count}
 use Rattle.pci_reader.proofs.Answering.{from-refused, from-short, from-done}
 use borrow.Author.Needs.{needs}
 use Rattle.pci_reader.proofs.from_pci.Statement.{statement}

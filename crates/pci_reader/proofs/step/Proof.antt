@@ -8,7 +8,7 @@ use Rattle.rules.specs.Pci.{values}
 use Rattle.command.specs.View.{refusedAt}
 use Rattle.command.proofs.Decoding.{at-unknown, at-known, at-kind}
 use Rattle.pci_reader.specs.View.{Met, Stepped}
-use Rattle.places.proofs.Places.{pair-count, id-small}
+use Rattle.pairs.proofs.Pairs.{pair-count, id-small}
 use Rattle.pci_reader.proofs.Meeting.{met-inside, stepped}
 use borrow.Author.Needs.{needs}
 use Rattle.pci_reader.proofs.step.Statement.{statement}

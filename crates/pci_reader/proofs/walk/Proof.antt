@@ -4,7 +4,7 @@ use mathlib.Core.Path.{subst}
 use lib.ListN.{length}
 use Rattle.rules.specs.Pci.{values}
 use Rattle.pci_reader.specs.View.{Stepped}
-use Rattle.places.proofs.Places.{pair-count}
+use Rattle.pairs.proofs.Pairs.{pair-count}
 use Rattle.pci_reader.proofs.Meeting.{Passing, passing-start, passing-stop, passing-on, passing-end}
 use borrow.Author.Needs.{needs}
 use Rattle.pci_reader.proofs.walk.Statement.{statement}

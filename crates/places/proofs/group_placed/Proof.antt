@@ -1,6 +1,7 @@
 use native.Mathlib.Omega.{arith}
-use Rattle.places.specs.View.{addresses}
-use Rattle.places.proofs.Places.{pair-count, placed-four}
+use Rattle.pairs.specs.View.{addresses}
+use Rattle.pairs.proofs.Pairs.{pair-count}
+use Rattle.places.proofs.Places.{placed-four}
 use borrow.Author.Needs.{needs}
 use Rattle.places.proofs.group_placed.Statement.{statement}
 use Rattle.places.proofs.group_placed.Tie as tie

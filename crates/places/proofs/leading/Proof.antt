@@ -6,8 +6,10 @@ use borrow.Author.Tests.{eq-eqb, ne-eqb}
 use lib.ListN.{length}
 use Rattle.rules.specs.Form.{read}
 use Rattle.rules.specs.Pci.{values}
-use Rattle.places.specs.View.{addresses, placed}
-use Rattle.places.proofs.Places.{pair-count, placed-one}
+use Rattle.pairs.specs.View.{addresses}
+use Rattle.pairs.proofs.Pairs.{pair-count}
+use Rattle.places.specs.View.{placed}
+use Rattle.places.proofs.Places.{placed-one}
 use Rattle.places.proofs.leading.Statement.{statement}
 use Rattle.places.proofs.leading.Tie as tie
 

@@ -7,8 +7,10 @@ use lib.ListN.{length}
 use borrow.Author.Tests.{le-leb, lt-leb}
 use Rattle.rules.specs.Form.{read}
 use Rattle.rules.specs.Pci.{values}
-use Rattle.places.specs.View.{addresses, placed}
-use Rattle.places.proofs.Places.{pair-count, placed-one}
+use Rattle.pairs.specs.View.{addresses}
+use Rattle.pairs.proofs.Pairs.{pair-count}
+use Rattle.places.specs.View.{placed}
+use Rattle.places.proofs.Places.{placed-one}
 use Rattle.places.proofs.payload_placed.Statement.{statement}
 use Rattle.places.proofs.payload_placed.Tie as tie
 

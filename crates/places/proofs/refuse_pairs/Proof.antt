@@ -6,7 +6,8 @@ use lib.ListN.{length}
 use Rattle.rules.specs.declared.Refusal.{Refusal}
 use Rattle.rules.specs.Pci.{values}
 use Rattle.places.specs.View.{misplacedFrom, orElse}
-use Rattle.places.proofs.Places.{pair-count, none-behind, leading-wrong, leading-cut, leading-all}
+use Rattle.pairs.proofs.Pairs.{pair-count}
+use Rattle.places.proofs.Places.{none-behind, leading-wrong, leading-cut, leading-all}
 use Rattle.places.proofs.refuse_pairs.Statement.{statement}
 use Rattle.places.proofs.refuse_pairs.Tie as tie
 

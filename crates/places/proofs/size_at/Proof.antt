@@ -4,7 +4,8 @@ use Prim.Native.Nat.{_+_, _*_}
 use borrow.Author.Tests.{not-true, not-false}
 use Rattle.rules.specs.Word.{idOf}
 use Rattle.command.proofs.Decoding.{payload-few}
-use Rattle.places.proofs.Places.{pair-count, id-small, sized-single, sized-cut, sized-group}
+use Rattle.pairs.proofs.Pairs.{pair-count, id-small}
+use Rattle.places.proofs.Places.{sized-single, sized-cut, sized-group}
 use borrow.Author.Needs.{needs}
 use Rattle.places.proofs.size_at.Statement.{statement}
 use Rattle.places.proofs.size_at.Tie as tie

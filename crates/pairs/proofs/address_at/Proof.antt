@@ -1,7 +1,7 @@
 use native.Mathlib.Omega.{arith}
-use Rattle.places.proofs.Places.{pair-count, address-of}
-use Rattle.places.proofs.address_at.Statement.{statement}
-use Rattle.places.proofs.address_at.Tie as tie
+use Rattle.pairs.proofs.Pairs.{pair-count, address-of}
+use Rattle.pairs.proofs.address_at.Statement.{statement}
+use Rattle.pairs.proofs.address_at.Tie as tie
 
 mul-result : tie.Need-mul-result
 mul-result c = omega (arith, c .pre, c .good, pair-count (c .args .pairs .now))

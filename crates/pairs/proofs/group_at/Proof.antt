@@ -1,8 +1,8 @@
 use native.Mathlib.Omega.{arith}
-use Rattle.places.proofs.Places.{pair-count}
+use Rattle.pairs.proofs.Pairs.{pair-count}
 use borrow.Author.Needs.{needs}
-use Rattle.places.proofs.group_at.Statement.{statement}
-use Rattle.places.proofs.group_at.Tie as tie
+use Rattle.pairs.proofs.group_at.Statement.{statement}
+use Rattle.pairs.proofs.group_at.Tie as tie
 
 add-value-at : tie.Need-add-value-at
 add-value-at c = omega (arith, c .before .before .before .pre, c .before .before .before .good, pair-count (c .before .before .before .args .pairs .now))

@@ -1,7 +1,7 @@
 use Rattle.rules.specs.Pci.{address}
 use borrow.Author.Needs.{needs}
-use Rattle.places.proofs.address.Statement.{statement}
-use Rattle.places.proofs.address.Tie as tie
+use Rattle.pairs.proofs.address.Statement.{statement}
+use Rattle.pairs.proofs.address.Tie as tie
 
 returns : tie.Need-returns
 unfolding address

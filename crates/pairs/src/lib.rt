@@ -1,0 +1,43 @@
+// The pairs of a buffer by their numbers: an address and a value each (document 02, Ticket 1).
+//
+// A pair is two words, address first. Pair `at` carries word `at` of a list.
+use table::Group;
+ghost use mathlib.Core.Path.{_≡_};
+ghost use Prim.Native.Nat.{_+_, _<_, _≤_};
+ghost use lib.ListN.{length, getD};
+ghost use Rattle.rules.specs.Pci.{address, values};
+ghost use Rattle.command.specs.View.{groupAt};
+ghost use Rattle.pairs.specs.View.{addresses};
+
+// The address of a command's word, counted from 0.
+pub fn address(id: u8, word: usize) -> u32
+    ensures { λ r. ⌜ r ≡ address id word ⌝ }
+{
+    0x2800 + (id as u32) * 4 + ((word % 4) as u32) * 4
+}
+
+pub fn address_at(pairs: &[u32], at: usize) -> u32
+    requires { ⌜ at < length (values (now pairs)) ⌝ }
+    ensures { λ r. ⌜ r ≡ getD (addresses (now (pairs .entry))) at 0 ⌝ }
+{
+    pairs[2 * at]
+}
+
+pub fn value_at(pairs: &[u32], at: usize) -> u32
+    requires { ⌜ at < length (values (now pairs)) ⌝ }
+    ensures { λ r. ⌜ r ≡ getD (values (now (pairs .entry))) at 0 ⌝ }
+{
+    pairs[2 * at + 1]
+}
+
+pub fn group_at(pairs: &[u32], at: usize) -> Group
+    requires { ⌜ at + 4 ≤ length (values (now pairs)) ⌝ }
+    ensures { λ r. ⌜ r ≡ groupAt (values (now (pairs .entry))) at ⌝ }
+{
+    Group {
+        header: words::header_of(value_at(pairs, at)),
+        second: value_at(pairs, at + 1),
+        third: value_at(pairs, at + 2),
+        fourth: value_at(pairs, at + 3),
+    }
+}
