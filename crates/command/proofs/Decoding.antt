@@ -17,7 +17,7 @@ use Rattle.rules.specs.Table.{Row, rowOf, isSetting, isBegin, isBase}
 use Rattle.rules.specs.Command.{payload, restSize, commandSize}
 use Rattle.rules.specs.Values.{refusal, undefinedBit, shift, valueFaults, faults}
 use Rattle.rules.specs.Decode.{Decoded, bad, good, firstFault, unknown, decodeRow, decode}
-use Rattle.rules.proofs.Numbers.{faults-proper}
+use Rattle.theory.proofs.Numbers.{faults-proper}
 use Rattle.table.specs.declared.Group.{Group}
 use Rattle.command.specs.declared.Decoded.the-variants.{Command, Refused}
 use Rattle.table.specs.Ids.{ofRow, isGroup, groupId}

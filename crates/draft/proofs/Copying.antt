@@ -7,7 +7,7 @@ use mathlib.Core.List.{List, [], _∷_}
 use lib.ListN.{length, set}
 use lib.Seq.{sets, set-out, length-sets}
 use Rattle.rules.specs.Form.{read}
-use Rattle.rules.proofs.Image.{sets-read-add}
+use Rattle.theory.proofs.Image.{sets-read-add}
 
 pub sets-past : (l : List ℕ) (i : ℕ) (vs : List ℕ) → length l ≤ i → sets l i vs ≡ l
 sets-past l i [] h = refl

@@ -14,8 +14,8 @@ use Rattle.rules.specs.Word.{lowest, undefined}
 use Rattle.rules.specs.Table.{Row}
 use Rattle.rules.specs.Values.{refusal, Fault, undefinedFaults, valueFaults, faults}
 use Rattle.rules.specs.Decode.{Decoded, bad, firstFault}
-use Rattle.rules.proofs.Bools.{and-left, and-right}
-use Rattle.rules.proofs.Numbers.{AllProper}
+use Rattle.theory.proofs.Bools.{and-left, and-right}
+use Rattle.theory.proofs.Numbers.{AllProper}
 use Rattle.table.specs.declared.Group.{Group}
 use Rattle.table.specs.Ids.{groupId}
 use Rattle.table.specs.Tables.{rowNumber, rowAt, maskOf, rowMasks}

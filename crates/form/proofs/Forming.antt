@@ -21,12 +21,12 @@ use Rattle.rules.specs.Valid.{Valid, Accepted}
 use Rattle.rules.specs.Image.{apply}
 use Rattle.rules.specs.Form.{read, differing, formFrom}
 use Rattle.rules.specs.Answer.{commandsOf, normalForm}
-use Rattle.rules.proofs.Rows.{Setting, settings-apart}
-use Rattle.rules.proofs.Valid.{setting-length, valid-setting}
-use Rattle.rules.proofs.Parse.{parse-accepted}
-use Rattle.rules.proofs.Image.{sets-append}
-use Rattle.rules.proofs.Differing.{Near, near-refl, near-setting, length-apply, emit-own, setting-other, work-other}
-use Rattle.rules.proofs.Form.{is-setting, form-nil, form-setting, form-work, form-fits, wordsAll-append}
+use Rattle.theory.proofs.Rows.{Setting, settings-apart}
+use Rattle.theory.proofs.Valid.{setting-length, valid-setting}
+use Rattle.theory.proofs.Parse.{parse-accepted}
+use Rattle.theory.proofs.Image.{sets-append}
+use Rattle.theory.proofs.Differing.{Near, near-refl, near-setting, length-apply, emit-own, setting-other, work-other}
+use Rattle.theory.proofs.Form.{is-setting, form-nil, form-setting, form-work, form-fits, wordsAll-append}
 use Rattle.table.specs.Ids.{settingId, settingKind}
 use Rattle.command.specs.View.{sizeAt}
 use Rattle.table.proofs.Tables.{setting-is}

@@ -14,7 +14,7 @@ use Rattle.rules.specs.Command.{Command, wordsAll}
 use Rattle.rules.specs.Walk.{accepted, parse}
 use Rattle.rules.specs.Form.{form}
 use Rattle.rules.specs.Answer.{acceptedAnswer, refuse, normalising, commandsOf, normalForm}
-use Rattle.rules.proofs.Form.{form-fits}
+use Rattle.theory.proofs.Form.{form-fits}
 use Rattle.list.specs.declared.Walked.the-variants as walked
 use Rattle.list.specs.View.{walkedOf}
 use Rattle.list.proofs.Answers.{answer-refused, answer-short, answer-done}

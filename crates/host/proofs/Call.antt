@@ -16,12 +16,12 @@ use Rattle.rules.specs.declared.Refusal.{Refusal}
 use Rattle.rules.specs.Values.{refusal}
 use Rattle.rules.specs.Answer.{Outcome, answerWords, refusedAnswer, accept, fitting, room, readParsed, writeParsed, reading, normalising}
 use Rattle.rules.specs.Pci.{pairsAll, values, parsePairs, toPci, fromPci}
-use Rattle.rules.proofs.Numbers.{RefusesList, parse-refuses}
-use Rattle.rules.proofs.Verdict.{length-recordWords}
-use Rattle.rules.proofs.Parse.{parse-accepted}
-use Rattle.rules.proofs.Form.{form-fits}
-use Rattle.rules.proofs.Records.{records-few}
-use Rattle.rules.proofs.Pci.{pairs-length, pairs-carry, pairs-refuses}
+use Rattle.theory.proofs.Numbers.{RefusesList, parse-refuses}
+use Rattle.theory.proofs.Verdict.{length-recordWords}
+use Rattle.theory.proofs.Parse.{parse-accepted}
+use Rattle.theory.proofs.Form.{form-fits}
+use Rattle.theory.proofs.Records.{records-few}
+use Rattle.theory.proofs.Pci.{pairs-length, pairs-carry, pairs-refuses}
 use Rattle.answer.specs.Small.{Small}
 use Rattle.host.specs.Call.{callResult}
 

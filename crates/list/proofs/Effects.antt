@@ -11,9 +11,9 @@ use lib.Seq.{sets, length-take-le}
 use Rattle.rules.specs.Table.{Kind, setting, plain, keeps, begins, rowOf, isSetting}
 use Rattle.rules.specs.Command.{payload}
 use Rattle.rules.specs.Image.{leave, apply}
-use Rattle.rules.proofs.Bools.{and-left, and-right}
-use Rattle.rules.proofs.Rows.{Setting, setting-fits, setting-payload}
-use Rattle.rules.proofs.Form.{is-setting}
+use Rattle.theory.proofs.Bools.{and-left, and-right}
+use Rattle.theory.proofs.Rows.{Setting, setting-fits, setting-payload}
+use Rattle.theory.proofs.Form.{is-setting}
 use Rattle.table.specs.Ids.{ofRow, beginId, settingId, groupId, settingKind}
 use Rattle.table.specs.Tables.{more, rowAt}
 use Rattle.command.specs.View.{groupAt, sizeAt, OwnAt}

@@ -11,10 +11,10 @@ use Rattle.rules.specs.Command.{Command, wordsAll, commandSize}
 use Rattle.rules.specs.Walk.{accepted, parse}
 use Rattle.rules.specs.Valid.{Valid, AllValid}
 use Rattle.rules.specs.Table.{rowOf}
-use Rattle.rules.proofs.Rows.{row-small}
-use Rattle.rules.proofs.Valid.{valid-size, valid-taken}
-use Rattle.rules.proofs.Parse.{parse-accepted}
-use Rattle.rules.proofs.Form.{wordsAll-append}
+use Rattle.theory.proofs.Rows.{row-small}
+use Rattle.theory.proofs.Valid.{valid-size, valid-taken}
+use Rattle.theory.proofs.Parse.{parse-accepted}
+use Rattle.theory.proofs.Form.{wordsAll-append}
 use Rattle.table.specs.Tables.{rowAt}
 use Rattle.command.specs.View.{sizeAt}
 use Rattle.table.proofs.Tables.{row-is, known-row}

@@ -14,8 +14,8 @@ use Rattle.rules.specs.Values.{refusal}
 use Rattle.rules.specs.Decode.{Decoded, bad, good, decode}
 use Rattle.rules.specs.Walk.{State, start, outOfOrder, orderAfter, next, Step, stop, took, inOrder, stepDecoded, step, Parsed, refused, accepted, andThen, onward, walk}
 use Rattle.rules.specs.Records.{records}
-use Rattle.rules.proofs.Parse.{decode-read, step-took}
-use Rattle.rules.proofs.Walk.{walk-at, walk-end}
+use Rattle.theory.proofs.Parse.{decode-read, step-took}
+use Rattle.theory.proofs.Walk.{walk-at, walk-end}
 use Rattle.command.specs.declared.Decoded.{Decoded as Decoded′}
 use Rattle.command.specs.declared.Decoded.the-variants as decoded
 use Rattle.command.specs.View.{kept, decodedAt}

@@ -14,7 +14,7 @@ use Rattle.rules.specs.Values.{refusal}
 use Rattle.rules.specs.Form.{read}
 use Rattle.rules.specs.Walk.{start, walk}
 use Rattle.rules.specs.Pci.{address, values, unless}
-use Rattle.rules.proofs.Bools.{and-left, and-right}
+use Rattle.theory.proofs.Bools.{and-left, and-right}
 use Rattle.table.specs.declared.Group.{Group}
 use Rattle.table.specs.Ids.{groupId}
 use Rattle.table.specs.Tables.{more}

@@ -10,8 +10,8 @@ use Rattle.rules.specs.Values.{refusal}
 use Rattle.rules.specs.Walk.{parse}
 use Rattle.rules.specs.Answer.{acceptedAnswer, refuse, commandsOf}
 use Rattle.rules.specs.Pci.{pairsAll, toPci}
-use Rattle.rules.proofs.Parse.{parse-accepted}
-use Rattle.rules.proofs.Pci.{pairs-length}
+use Rattle.theory.proofs.Parse.{parse-accepted}
+use Rattle.theory.proofs.Pci.{pairs-length}
 use Rattle.list.specs.declared.Walked.the-variants as walked
 use Rattle.list.specs.View.{walkedOf}
 use Rattle.list.proofs.Answers.{counts, answer-refused, answer-short, answer-done}

@@ -16,8 +16,8 @@ use Rattle.rules.specs.Command.{Command, words, payload, restSize}
 use Rattle.rules.specs.Walk.{accepted, parse}
 use Rattle.rules.specs.Form.{read}
 use Rattle.rules.specs.Pci.{address, pairsFrom, commandPairs, pairsAll}
-use Rattle.rules.proofs.Image.{sets-append}
-use Rattle.rules.proofs.Pci.{pairs-length}
+use Rattle.theory.proofs.Image.{sets-append}
+use Rattle.theory.proofs.Pci.{pairs-length}
 use Rattle.table.specs.declared.Group.{Group}
 use Rattle.table.specs.Ids.{ofRow, beginId, groupId}
 use Rattle.table.specs.Tables.{rowAt, more}

@@ -17,9 +17,9 @@ use Rattle.rules.specs.Command.{payload, sizeOf, commandSize}
 use Rattle.rules.specs.Values.{refusal}
 use Rattle.rules.specs.Form.{read}
 use Rattle.rules.specs.Pci.{address, values, Inside, further, ended, expecting, misplaced, outside}
-use Rattle.rules.proofs.Bools.{and-left, and-right}
-use Rattle.rules.proofs.Image.{length-read, read-add}
-use Rattle.rules.proofs.Pci.{between, expected, expecting-none}
+use Rattle.theory.proofs.Bools.{and-left, and-right}
+use Rattle.theory.proofs.Image.{length-read, read-add}
+use Rattle.theory.proofs.Pci.{between, expected, expecting-none}
 use Rattle.table.specs.declared.Group.{Group}
 use Rattle.table.specs.Ids.{groupId}
 use Rattle.table.specs.Tables.{more}

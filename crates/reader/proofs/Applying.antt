@@ -10,9 +10,9 @@ use Rattle.rules.specs.Command.{Command, wordsAll}
 use Rattle.rules.specs.Walk.{accepted, parse}
 use Rattle.rules.specs.Image.{apply, final}
 use Rattle.rules.specs.Records.{records, recordWords}
-use Rattle.rules.proofs.Image.{sets-append}
-use Rattle.rules.proofs.Differing.{length-final, final-append}
-use Rattle.rules.proofs.Records.{records-append, recordWords-append}
+use Rattle.theory.proofs.Image.{sets-append}
+use Rattle.theory.proofs.Differing.{length-final, final-append}
+use Rattle.theory.proofs.Records.{records-append, recordWords-append}
 use Rattle.command.specs.View.{sizeAt}
 use Rattle.reader.specs.declared.Place.{Place}
 use Rattle.list.specs.Effects.{commandAt, recordAt}

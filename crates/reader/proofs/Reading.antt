@@ -13,7 +13,7 @@ use Rattle.rules.specs.Walk.{Parsed, refused, accepted, parse}
 use Rattle.rules.specs.Image.{final}
 use Rattle.rules.specs.Records.{records, recordWords}
 use Rattle.rules.specs.Answer.{acceptedAnswer, refuse, room, readParsed, reading, commandsOf}
-use Rattle.rules.proofs.Verdict.{length-recordWords}
+use Rattle.theory.proofs.Verdict.{length-recordWords}
 use Rattle.list.specs.declared.Walked.the-variants as walked
 use Rattle.list.specs.View.{walkedOf}
 use Rattle.list.proofs.Answers.{Counts, counts, put-front}

@@ -10,7 +10,7 @@ use lib.Dec.{ltb}
 use borrow.Author.Tests.{lt-ltb, le-ltb, ltb-true, ltb-false}
 use lib.ListN.{length, getD, take, length-append}
 use lib.Seq.{sets, take-suc, length-sets, length-take-le, take-all}
-use Rattle.rules.proofs.Image.{sets-append}
+use Rattle.theory.proofs.Image.{sets-append}
 use Rattle.report.specs.Text.{digit, hex, decimalOf, decimal, line, twoNumbers}
 use Rattle.report.specs.Puts.{Puts, Bounded}
 

@@ -11,10 +11,10 @@ use Rattle.rules.specs.Walk.{refused, accepted, parse}
 use Rattle.rules.specs.Image.{final}
 use Rattle.rules.specs.Records.{Record, records, recordWords}
 use Rattle.rules.specs.Answer.{room, readParsed, reading}
-use Rattle.rules.proofs.Numbers.{Proper, parse-refuses}
-use Rattle.rules.proofs.Records.{records-few}
-use Rattle.rules.proofs.Verdict.{reads, written-accept}
-use Rattle.rules.proofs.Parse.{parse-accepted}
+use Rattle.theory.proofs.Numbers.{Proper, parse-refuses}
+use Rattle.theory.proofs.Records.{records-few}
+use Rattle.theory.proofs.Verdict.{reads, written-accept}
+use Rattle.theory.proofs.Parse.{parse-accepted}
 use Rattle.report.specs.Text.{ascii, line, twoNumbers}
 use Rattle.report.specs.Listing.{chunks, wordsOf, readBytes, textOf}
 use Rattle.report.proofs.Printed.{listed-refused, listed-accepted}

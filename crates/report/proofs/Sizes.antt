@@ -17,8 +17,8 @@ use Rattle.rules.specs.Walk.{Parsed, refused, accepted, parse}
 use Rattle.rules.specs.Image.{final}
 use Rattle.rules.specs.Records.{Record, records, recordWords}
 use Rattle.rules.specs.Answer.{Outcome, refuse, accept, fitting, room, readParsed, reading}
-use Rattle.rules.proofs.Verdict.{written-accept}
-use Rattle.rules.proofs.Parse.{parse-accepted}
+use Rattle.theory.proofs.Verdict.{written-accept}
+use Rattle.theory.proofs.Parse.{parse-accepted}
 use Rattle.report.specs.Text.{ascii, digit, hex, decimalOf, decimal, line, twoNumbers}
 use Rattle.report.specs.Listing.{chunks, wordsOf, readBytes, listed, textOf, printed}
 use Rattle.report.specs.Puts.{Bounded}

@@ -1,8 +1,8 @@
 -- Cases P1 to P12 and N1 to N4 (document 01, "Cases on each side", as document 02, Tickets 2 and 3, changes them) and the
 -- guide's own PCI writes, in one table.
-use Prim.Native.Nat.{ℕ}
+use Prim.Native.Nat.{ℕ, zero, suc}
 use mathlib.Core.Bool.{Bool, true, _&&_}
-use mathlib.Core.List.{List, [], _∷_}
+use mathlib.Core.List.{List, [], _∷_, _++_}
 use lib.Dec.{eqb}
 use lib.ListN.{length, getD, replicate, set}
 use Rattle.rules.specs.declared.Refusal.{Refusal}
@@ -36,6 +36,10 @@ told n p b = record { number = n; word = p; bit = b }
 answered : Refusal → Outcome → Bool
 answered f o = (eqb (o .answer .verdict) (f .number) && eqb (o .answer .position) (f .word)) && eqb (o .answer .bit) (f .bit)
 
+-- "a refusal changes neither the image nor any buffer"
+refuses : Refusal → List ℕ → Outcome → Bool
+refuses f image o = answered f o && (equal (o .image) image && equal (o .buffer) buffer)
+
 -- the reader and the normaliser answer alike
 alike : Refusal → List ℕ → List ℕ → Bool
 alike f ws image = answered f (reading ws image buffer) && answered f (normalising ws image buffer)
@@ -44,9 +48,9 @@ accepts : List ℕ → List ℕ → Bool
 accepts ws image =
     alike (told 0 (length ws) 32) ws image && eqb (reading ws image buffer .answer .commands) (normalising ws image buffer .answer .commands)
 
--- a form is accepted too, and leaves the same image
+-- a form is accepted too, and leaves the same image; behind pairs an odd last word is ignored
 holds : List ℕ → List ℕ → Want → Bool
-holds ws image (refusedAs f) = alike f ws image
+holds ws image (refusedAs f) = refuses f image (reading ws image buffer) && refuses f image (normalising ws image buffer)
 holds ws image (commands k) = accepts ws image && eqb (normalising ws image buffer .answer .commands) k
 holds ws image (imageWord i w) = accepts ws image && eqb (getD (reading ws image buffer .image) i 0) w
 holds ws image (normalFormIs us) =
@@ -54,11 +58,12 @@ holds ws image (normalFormIs us) =
     && (accepts us image && equal (reading us image buffer .image) (reading ws image buffer .image))
 holds ws image (writesAre ps) =
     (answered (told 0 (length ws) 32) (toPci ws image buffer) && equal (written (toPci ws image buffer)) ps)
-    && (answered (told 0 (length ws) 32) (fromPci ps image buffer) && equal (written (fromPci ps image buffer)) ws)
-holds ps image (pairsRefusedAs f) = answered f (fromPci ps image buffer)
+    && (answered (told 0 (length ws) 32) (fromPci ps image buffer) && (equal (written (fromPci ps image buffer)) ws
+    && equal (written (fromPci (ps ++ (0x2800 ∷ [])) image buffer)) ws))
+holds ps image (pairsRefusedAs f) = refuses f image (fromPci ps image buffer)
 
 unfoldable pub every : List Case → Bool
-unfolding holds accepts alike answered
+unfolding holds accepts alike refuses answered
 every [] = true
 every (c ∷ cs) = holds (c .list) (c .start) (c .want) && every cs
 
@@ -77,6 +82,10 @@ pairsRefusedAt n p = pairsRefusedAs (told n p 32)
 
 abbrev n1 : List ℕ
 n1 = 0x02000010 ∷ 0x02000020 ∷ 0x00000001 ∷ 0x02000020 ∷ []
+
+abbrev nullPrimitives : ℕ → List ℕ
+nullPrimitives zero = []
+nullPrimitives (suc n) = 0x48000000 ∷ 0 ∷ 0 ∷ 0 ∷ nullPrimitives n
 
 unfoldable pub cases : List Case
 cases =
@@ -100,9 +109,13 @@ cases =
     ∷ fromZeros (0x84000000 ∷ 0x10000000 ∷ 0xC000D000 ∷ 0 ∷ []) (refusedAt 15 0)
     -- of several undefined bits the lowest, at the lowest word
     ∷ fromZeros (0x02000010 ∷ 0x88000000 ∷ 0 ∷ 0x80C00000 ∷ 0xFF000000 ∷ []) (refusedAs (told 6 3 22))
+    -- no room, for records or for a form
+    ∷ fromZeros (0x02000010 ∷ nullPrimitives 5) (refusedAt 11 21)
     ∷ fromZeros n1 (normalFormIs (0x02000020 ∷ 0x00000001 ∷ []))
     ∷ fromZeros (0x02000010 ∷ 0x02000000 ∷ []) (normalFormIs [])
     ∷ fromZeros (0x31800001 ∷ 0x02000005 ∷ []) (normalFormIs (0x02000005 ∷ 0x31800001 ∷ []))
+    -- settings in rising id
+    ∷ fromZeros (0x31000001 ∷ 0x30000001 ∷ 0x26000001 ∷ []) (normalFormIs (0x26000001 ∷ 0x30000001 ∷ 0x31000001 ∷ []))
     ∷ record { list = n1; start = set zeros 0x02 0x20; want = normalFormIs (0x00000001 ∷ []) }
     -- "2804_01000004 (reset 2D engine)" and "2920_48000000 (1st Dword)" with the next three (001, 3)
     ∷ fromZeros (0x01000004 ∷ []) (writesAre (0x2804 ∷ 0x01000004 ∷ []))

@@ -1,4 +1,4 @@
-// The rules of XP10 command lists are the definitions in specs/, and what follows of them is proved in proofs/.
+// The rules of XP10 command lists are the definitions in specs/, held against the papers' cases in proofs/.
 // No code stands here: only the values that the definitions give and the functions above return.
 
 // "A bad list is refused with a number and a word position." "With 6, the answer now also gives the number of the lowest

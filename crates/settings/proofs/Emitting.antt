@@ -20,11 +20,11 @@ use Rattle.rules.specs.Word.{idOf, headerOf, firstWord}
 use Rattle.rules.specs.Table.{Row, size, settings}
 use Rattle.rules.specs.Command.{Command, words, wordsAll}
 use Rattle.rules.specs.Form.{read, equal, same, emit, differing}
-use Rattle.rules.proofs.Image.{sets-append, equal-true, equal-refl, length-read}
-use Rattle.rules.proofs.Rows.{setting-fits}
+use Rattle.theory.proofs.Image.{sets-append, equal-true, equal-refl, length-read}
+use Rattle.theory.proofs.Rows.{setting-fits}
 use Rattle.rules.specs.Valid.{Valid}
-use Rattle.rules.proofs.Differing.{emit-cong}
-use Rattle.rules.proofs.Form.{wordsAll-append}
+use Rattle.theory.proofs.Differing.{emit-cong}
+use Rattle.theory.proofs.Form.{wordsAll-append}
 use Rattle.settings.specs.Numbers.{odd, holds, numbers}
 use Rattle.settings.specs.Output.{longest, Output, isBuilt, putOne, emitOne, emitEach, emitChanged, CanEmit, CanEmitEach, CanEmitChanged}
 use Rattle.settings.proofs.Numbers.{numbers-none, lowest-off, numbers-low, holds-at, settingOf, rowList, settingsFrom, settings-by-number, setting-of}

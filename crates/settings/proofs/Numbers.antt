@@ -15,8 +15,8 @@ use lib.Pow.{shl-exact, field, mod-mod-pow, shr-shr}
 use lib.ListN.{length}
 use borrow.Author.Tests.{eqb-true, eqb-false, ltb-true}
 use Rattle.rules.specs.Table.{Row, table, rowOf, isSetting, settings}
-use Rattle.rules.proofs.Bools.{and-left, and-right, implied}
-use Rattle.rules.proofs.Rows.{Setting, AllSettings, settings-all, everyRow, found-passes, found-step}
+use Rattle.theory.proofs.Bools.{and-left, and-right, implied}
+use Rattle.theory.proofs.Rows.{Setting, AllSettings, settings-all, everyRow, found-passes, found-step}
 use Rattle.settings.specs.Numbers.{odd, holds, numbers, numberOf}
 
 -- ---- sets

@@ -11,8 +11,8 @@ use borrow.Author.Tests.{eqb-true, ltb-true, not-true}
 use lib.ListN.{length, getD}
 use Rattle.rules.specs.Table.{Kind, setting, plain, keeps, begins, Row, table, rowOf, isSetting, isBegin, isBase}
 use Rattle.rules.specs.Form.{equal}
-use Rattle.rules.proofs.Bools.{and-left, and-right}
-use Rattle.rules.proofs.Image.{equal-true}
+use Rattle.theory.proofs.Bools.{and-left, and-right}
+use Rattle.theory.proofs.Image.{equal-true}
 use Rattle.table.specs.declared.Group.{Group}
 use Rattle.table.specs.Ids.{beginId, settingId, groupId, settingKind}
 use Rattle.table.specs.Tables.{baseRow, timerRow, beginRow, clipRow, values, rowNumber, rowTable, orUnknown, rowAt, masksOf, more, rowMasks}

@@ -6,7 +6,7 @@ use mathlib.Core.List.{List}
 use lib.ListN.{length, set, length-set}
 use lib.Seq.{sets}
 use Rattle.rules.specs.Form.{read}
-use Rattle.rules.proofs.Image.{copied-on}
+use Rattle.theory.proofs.Image.{copied-on}
 use Rattle.draft.proofs.Copying.{copied-all}
 use Rattle.draft.proofs.copy.Statement.{statement}
 use Rattle.draft.proofs.copy.Tie as tie

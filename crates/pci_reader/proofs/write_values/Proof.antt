@@ -7,7 +7,7 @@ use lib.ListN.{length, set, length-set}
 use lib.Seq.{sets}
 use Rattle.rules.specs.Form.{read}
 use Rattle.rules.specs.Pci.{values}
-use Rattle.rules.proofs.Image.{copied-on, read-all}
+use Rattle.theory.proofs.Image.{copied-on, read-all}
 use Rattle.pairs.proofs.Pairs.{pair-count}
 use Rattle.pci_reader.proofs.write_values.Statement.{statement}
 use Rattle.pci_reader.proofs.write_values.Tie as tie

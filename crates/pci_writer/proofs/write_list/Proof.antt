@@ -3,7 +3,7 @@ use Prim.Native.Nat.{_-_}
 use lib.ListN.{length}
 use Rattle.rules.specs.Walk.{parse}
 use Rattle.rules.specs.Answer.{commandsOf}
-use Rattle.rules.proofs.Parse.{parse-accepted}
+use Rattle.theory.proofs.Parse.{parse-accepted}
 use Rattle.pci_writer.proofs.Writing.{Put, put-start, put-length, put-command, put-on, put-end}
 use Rattle.pci_writer.proofs.write_list.Statement.{statement}
 use Rattle.pci_writer.proofs.write_list.Tie as tie

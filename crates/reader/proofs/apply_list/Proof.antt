@@ -6,9 +6,9 @@ use lib.Seq.{length-sets}
 use Rattle.rules.specs.Walk.{parse}
 use Rattle.rules.specs.Records.{records, recordWords}
 use Rattle.rules.specs.Answer.{commandsOf}
-use Rattle.rules.proofs.Parse.{parse-accepted}
-use Rattle.rules.proofs.Differing.{length-final}
-use Rattle.rules.proofs.Verdict.{length-recordWords}
+use Rattle.theory.proofs.Parse.{parse-accepted}
+use Rattle.theory.proofs.Differing.{length-final}
+use Rattle.theory.proofs.Verdict.{length-recordWords}
 use Rattle.reader.proofs.Applying.{Applying, applying-start, applying-command, applying-on, applying-end}
 use Rattle.reader.proofs.apply_list.Statement.{statement}
 use Rattle.reader.proofs.apply_list.Tie as tie

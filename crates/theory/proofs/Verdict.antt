@@ -8,13 +8,13 @@ use lib.Dec.{ltb}
 use borrow.Author.Tests.{eqb-false, ltb-false, le-ltb}
 use lib.ListN.{length, drop}
 use lib.Seq.{take-append-seam}
 use Rattle.rules.specs.Command.{Command, wordsAll}
 use Rattle.rules.specs.Walk.{Parsed, refused, accepted, parse}
 use Rattle.rules.specs.Image.{final}
 use Rattle.rules.specs.Records.{Record, records, recordWords}
 use Rattle.rules.specs.Form.{form}
 use Rattle.rules.specs.Answer.{Outcome, accept, fitting, room, readParsed, writeParsed, reading, normalising, commandsOf, written}
-use Rattle.rules.proofs.Numbers.{RefusesList, parse-refuses}
+use Rattle.theory.proofs.Numbers.{RefusesList, parse-refuses}
 
 fitting-zero : (small : Bool) (ws image buffer : List ℕ) (done : Outcome) → fitting small ws image buffer done .answer .verdict ≡ 0 → small ≡ false
 fitting-zero true ws image buffer done e = let z : _≡_ {A = ℕ} 11 0 = e in absurd (omega arith)

@@ -8,20 +8,20 @@ use mathlib.Core.Bool.{true}
 use mathlib.Core.Logic.{_↔_}
 use mathlib.Core.List.{List, _++_}
 use lib.ListN.{length, getD, length-append}
 use Rattle.rules.specs.Word.{bits}
 use Rattle.rules.specs.Command.{Command, wordsAll}
 use Rattle.rules.specs.Walk.{parse}
 use Rattle.rules.specs.Valid.{Accepted}
 use Rattle.rules.specs.Image.{final, Unset}
 use Rattle.rules.specs.Records.{records, recordWords, withoutPositions}
 use Rattle.rules.specs.Form.{form}
 use Rattle.rules.specs.Answer.{Outcome, refusalOf, tellsBit, refuse, accept, room, reading, normalising, commandsOf, does, normalForm, written}
 use Rattle.rules.specs.Pci.{pairsAll, values, wholePairs, parsePairs, toPci, fromPci}
-use Rattle.rules.proofs.Parse.{parse-accepted, accepted-parse}
-use Rattle.rules.proofs.Records.{records-few}
-use Rattle.rules.proofs.Verdict.{written-accept, reads, reading-zero, normalises, normalising-zero}
-use Rattle.rules.proofs.Pci.{values-all, whole-all, whole-values, pairs-length, carries-pairs, pairs-carry, to-pci, to-pci-zero, from-pci, from-pci-zero}
-use Rattle.rules.proofs.Outcomes as laws
+use Rattle.theory.proofs.Parse.{parse-accepted, accepted-parse}
+use Rattle.theory.proofs.Records.{records-few}
+use Rattle.theory.proofs.Verdict.{written-accept, reads, reading-zero, normalises, normalising-zero}
+use Rattle.theory.proofs.Pci.{values-all, whole-all, whole-values, pairs-length, carries-pairs, pairs-carry, to-pci, to-pci-zero, from-pci, from-pci-zero}
+use Rattle.theory.proofs.Outcomes as laws
 
 -- ---- Demand 1: "a refusal changes neither the image nor any buffer", and its counts are 0
 

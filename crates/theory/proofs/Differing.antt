@@ -8,15 +8,15 @@ use mathlib.Core.List.{List, [], _∷_, _++_}
 use native.Mathlib.Decide.{decLe, decLt}
 use lib.ListN.{length, getD, set, length-set}
 use lib.Seq.{sets, length-sets, ext-getD, getD-set-other}
 use Rattle.rules.specs.Table.{Kind, setting, plain, keeps, begins, Row, isSetting, size, settings}
 use Rattle.rules.specs.Command.{Command}
 use Rattle.rules.specs.Image.{leave, apply, final}
 use Rattle.rules.specs.Form.{read, same, emit, differing}
-use Rattle.rules.proofs.Image.{sets-below, sets-above, sets-read, read-cong, read-at, read-sets, length-read, equal-true, equal-refl}
-use Rattle.rules.proofs.Rows.{Setting, setting-fits, settings-apart, inside, insideAny, inside-from, inside-to, setting-inside, AllSettings, settings-all, keeps-outside, begins-outside}
-use Rattle.rules.proofs.Bools.{or-false}
+use Rattle.theory.proofs.Image.{sets-below, sets-above, sets-read, read-cong, read-at, read-sets, length-read, equal-true, equal-refl}
+use Rattle.theory.proofs.Rows.{Setting, setting-fits, settings-apart, inside, insideAny, inside-from, inside-to, setting-inside, AllSettings, settings-all, keeps-outside, begins-outside}
+use Rattle.theory.proofs.Bools.{or-false}
 use Rattle.rules.specs.Valid.{Valid}
-use Rattle.rules.proofs.Valid.{setting-length}
+use Rattle.theory.proofs.Valid.{setting-length}
 
 pub length-leave : (k : Kind) (i h : ℕ) (ws im : List ℕ) → length (leave k i h ws im) ≡ length im
 length-leave setting i h ws im = length-sets im i (h ∷ ws)

@@ -11,14 +11,14 @@ use lib.Dec.{eqb, ltb}
 use lib.Pow.{split, high, low, pow-pos}
 use borrow.Author.Tests.{eqb-true, eq-eqb, not-false, ltb-false, le-ltb}
 use lib.ListN.{length, take, drop, take-append-drop}
 use Rattle.rules.specs.Word.{idOf, headerOf, firstWord}
 use Rattle.rules.specs.Table.{Row, table, find, rowOf}
 use Rattle.rules.specs.Command.{Command, wordsAll, restSize}
 use Rattle.rules.specs.Decode.{Decoded, bad, good, decodeKnown, decode}
 use Rattle.rules.specs.Walk.{State, start, outOfOrder, next, Step, stop, took, inOrder, stepDecoded, step, Parsed, refused, accepted, andThen, onward, walk, sized, parse}
-use Rattle.rules.proofs.Rows.{found-step}
+use Rattle.theory.proofs.Rows.{found-step}
 use Rattle.rules.specs.Valid.{Valid, AllValid, InOrder, Parses, Accepted}
-use Rattle.rules.proofs.Valid.{passed, passed-length, passed-valid, valid-passes}
+use Rattle.theory.proofs.Valid.{passed, passed-length, passed-valid, valid-passes}
 
 found-id : (rows : List Row) (i : ℕ) (r : Row) → find i rows ≡ some r → r .id ≡ i
 found-id [] i r e = cc

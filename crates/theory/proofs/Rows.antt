@@ -8,9 +8,9 @@ use mathlib.Core.List.{List, [], _∷_}
 use mathlib.Core.Option.{Option, some}
 use lib.Dec.{eqb, leb, ltb}
 use borrow.Author.Tests.{eqb-true, leb-true, ltb-true, le-leb, lt-ltb, not-true}
 use Rattle.rules.specs.Table.{Kind, setting, plain, keeps, begins, Row, table, find, rowOf, isSetting, isBase, size, onlySettings, settings}
 use Rattle.rules.specs.Command.{payload}
-use Rattle.rules.proofs.Bools.{and-left, and-right, and-true, or-cases, or-left, or-right, implied}
+use Rattle.theory.proofs.Bools.{and-left, and-right, and-true, or-cases, or-left, or-right, implied}
 
 abbrev pub everyRow : (Row → Bool) → List Row → Bool
 everyRow p [] = true

@@ -8,15 +8,15 @@ use mathlib.Core.Option.{Option, none, some}
 use lib.Dec.{eqb, leb, ltb}
 use borrow.Author.Tests.{leb-true, ltb-false, not-true}
 use lib.ListN.{length, getD, take, length-take}
 use Rattle.rules.specs.declared.Refusal.{Refusal}
 use Rattle.rules.specs.Word.{idOf, headerOf, undefined}
 use Rattle.rules.specs.Table.{Row, rowOf, isBegin}
 use Rattle.rules.specs.Command.{Command, moreMasks, ownSize, restSize}
 use Rattle.rules.specs.Values.{refusal, Fault, undefinedFaults, valueFaults, loadFaults, primitiveFaults, clipFaults, rasterFaults, faults}
 use Rattle.rules.specs.Decode.{Decoded, bad, good, firstFault, decodeKnown, decodeRow, decode}
 use Rattle.rules.specs.Walk.{State, start, outOfOrder, next, Step, stop, took, inOrder, stepDecoded, step, Parsed, refused, accepted, andThen, onward, walk, sized, parse}
 use Rattle.rules.specs.Answer.{refusedAnswer, tellsBit}
-use Rattle.rules.proofs.Bools.{and-left, and-right}
+use Rattle.theory.proofs.Bools.{and-left, and-right}
 
 -- a refusal has a number that is not 0, its word is at most m, and its bit is by its number
 pub record Proper (m : ℕ) (f : Refusal) : Type 0 where

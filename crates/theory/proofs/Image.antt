@@ -10,8 +10,8 @@ use lib.Dec.{eqb}
 use borrow.Author.Tests.{eqb-true, eq-eqb}
 use lib.ListN.{length, getD, set, length-set}
 use lib.Seq.{sets, getD-set-same, getD-set-other}
 use Rattle.rules.specs.Form.{read, equal}
-use Rattle.rules.proofs.Bools.{and-left, and-right}
+use Rattle.theory.proofs.Bools.{and-left, and-right}
 
 pub sets-below : (l : List ℕ) (i : ℕ) (vs : List ℕ) (k : ℕ) → k < i → getD (sets l i vs) k 0 ≡ getD l k 0
 sets-below l i [] k h = refl

@@ -10,15 +10,15 @@ use lib.Dec.{eqb, leb, ltb}
 use lib.Pow.{pow-add, pow-pos, shr-shr, field, mod-mod-pow}
 use borrow.Author.Tests.{leb-false, ltb-true, ltb-false, eqb-false, not-true}
 use lib.ListN.{length, getD, take}
 use Rattle.rules.specs.declared.Refusal.{Refusal}
 use Rattle.rules.specs.Word.{bits, idOf, headerOf, lowest, undefined}
 use Rattle.rules.specs.Table.{Row, rowOf, isBegin}
 use Rattle.rules.specs.Command.{Command, moreMasks, ownSize, restSize, commandSize}
 use Rattle.rules.specs.Values.{refusal, Fault, undefinedFaults, valueFaults, loadFaults, primitiveFaults, clipFaults, rasterFaults, faults}
 use Rattle.rules.specs.Decode.{Decoded, bad, good, firstFault, decodeKnown, decodeRow, decode}
 use Rattle.rules.specs.Walk.{State, start, outOfOrder, next, Step, stop, took, inOrder, stepDecoded, step, Parsed, refused, accepted, andThen, onward, walk, sized, parse}
 use Rattle.rules.specs.Pci.{address, values, Inside, begun, further, ended, misplaced, outside, unless, parsePairs}
-use Rattle.rules.proofs.Bools.{and-left, and-right}
+use Rattle.theory.proofs.Bools.{and-left, and-right}
 
 -- ---- words
 

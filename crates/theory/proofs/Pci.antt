@@ -10,18 +10,18 @@ use lib.Pow.{high, low}
 use borrow.Author.Tests.{eqb-true, eq-eqb}
 use lib.ListN.{length, getD, take, drop, length-append}
 use lib.Seq.{take-append-seam, drop-append-seam}
 use Rattle.rules.specs.declared.Refusal.{Refusal}
 use Rattle.rules.specs.Word.{idOf, firstWord}
 use Rattle.rules.specs.Command.{Command, words, wordsAll, commandSize}
 use Rattle.rules.specs.Values.{refusal}
 use Rattle.rules.specs.Walk.{Parsed, accepted, start, walk, parse}
 use Rattle.rules.specs.Valid.{Valid, AllValid}
 use Rattle.rules.specs.Answer.{commandsOf}
 use Rattle.rules.specs.Pci.{address, pairsFrom, commandPairs, pairsAll, values, wholePairs, Inside, begun, further, ended, expecting, misplaced, outside, unless, parsePairs, toPci, fromPci}
-use Rattle.rules.proofs.Valid.{valid-size}
-use Rattle.rules.proofs.Parse.{parse-accepted, sized-accepted}
-use Rattle.rules.proofs.Numbers.{Proper, RefusesList, sized-refuses, walk-refuses, parse-refuses}
-use Rattle.rules.proofs.Verdict.{Writes, writes, writes-zero}
+use Rattle.theory.proofs.Valid.{valid-size}
+use Rattle.theory.proofs.Parse.{parse-accepted, sized-accepted}
+use Rattle.theory.proofs.Numbers.{Proper, RefusesList, sized-refuses, walk-refuses, parse-refuses}
+use Rattle.theory.proofs.Verdict.{Writes, writes, writes-zero}
 
 -- ---- the pairs of a list carry it
 

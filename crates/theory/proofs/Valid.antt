@@ -9,13 +9,13 @@ use lib.Dec.{ltb}
 use borrow.Author.Tests.{ltb-false, le-ltb}
 use lib.ListN.{length, take, length-append}
 use lib.Seq.{take-take, length-take-le, take-append-le, take-append-seam}
 use Rattle.rules.specs.Table.{setting, Row, rowOf}
 use Rattle.rules.specs.Command.{Command, payload, ownSize, restSize}
 use Rattle.rules.specs.declared.Refusal.{Refusal}
 use Rattle.rules.specs.Values.{refusal, Fault, faults}
 use Rattle.rules.specs.Decode.{Decoded, bad, good, firstFault, decodeRow}
 use Rattle.rules.specs.Valid.{NoFault, Valid}
-use Rattle.rules.proofs.Rows.{Setting, setting-payload}
+use Rattle.theory.proofs.Rows.{Setting, setting-payload}
 
 cond-good : (b : Bool) (f : Refusal) (d : Decoded) (c : Command) → cond b (bad f) d ≡ good c → (b ≡ false) × (d ≡ good c)
 cond-good true f d c e = (cc, cc)

@@ -10,19 +10,19 @@ use lib.Dec.{eqb}
 use lib.Pow.{high, low}
 use borrow.Author.Tests.{eq-eqb}
 use lib.ListN.{length, length-append}
 use Rattle.rules.specs.Word.{idOf, headerOf}
 use Rattle.rules.specs.Table.{Kind, setting, plain, keeps, begins, Row, rowOf, isSetting, isBegin, size, settings}
 use Rattle.rules.specs.Command.{Command, words, wordsAll}
 use Rattle.rules.specs.Image.{leave, apply, final}
 use Rattle.rules.specs.Walk.{Order, outOfOrder, orderAfter, accepted, parse}
 use Rattle.rules.specs.Effect.{Work, works, Effect, effect}
 use Rattle.rules.specs.Form.{read, equal, same, emit, differing, formFrom, form}
-use Rattle.rules.proofs.Image.{equal-refl, length-read}
-use Rattle.rules.proofs.Rows.{Setting, settings-apart, AllSettings, settings-all, setting-base, sizeAt, setting-once}
+use Rattle.theory.proofs.Image.{equal-refl, length-read}
+use Rattle.theory.proofs.Rows.{Setting, settings-apart, AllSettings, settings-all, setting-base, sizeAt, setting-once}
 use Rattle.rules.specs.Valid.{Valid, AllValid, InOrder, Accepted}
-use Rattle.rules.proofs.Valid.{setting-length, valid-setting}
-use Rattle.rules.proofs.Parse.{parse-accepted, parse-words}
-use Rattle.rules.proofs.Differing.{length-apply, final-append, Near, near-refl, near-setting, setting-other, flush, differing-none}
+use Rattle.theory.proofs.Valid.{setting-length, valid-setting}
+use Rattle.theory.proofs.Parse.{parse-accepted, parse-words}
+use Rattle.theory.proofs.Differing.{length-apply, final-append, Near, near-refl, near-setting, setting-other, flush, differing-none}
 
 -- the two cases of a command
 pub form-setting : (fi im : List ℕ) (c : Command) (cs : List Command) → isSetting (c .row .kind) ≡ true → formFrom fi im (c ∷ cs) ≡ formFrom fi (apply c im) cs

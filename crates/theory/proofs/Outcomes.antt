@@ -9,25 +9,25 @@ use lib.Dec.{eqb, ltb}
 use borrow.Author.Tests.{eqb-false}
 use lib.ListN.{length, getD}
 use lib.Seq.{getD-set-other}
 use Rattle.rules.specs.Word.{bits}
 use Rattle.rules.specs.Table.{Kind, setting, plain, keeps, begins}
 use Rattle.rules.specs.Command.{Command, wordsAll}
 use Rattle.rules.specs.Walk.{Parsed, refused, accepted, parse}
 use Rattle.rules.specs.Image.{leave, apply, final, UnsetBy, Unset}
 use Rattle.rules.specs.Records.{records, recordWords, withoutPositions}
 use Rattle.rules.specs.Effect.{Effect, effect, works}
 use Rattle.rules.specs.Form.{form}
 use Rattle.rules.specs.Answer.{Outcome, refusalOf, tellsBit, refuse, accept, fitting, room, readParsed, writeParsed, reading, normalising, commandsOf, does, normalForm, written}
 use Rattle.rules.specs.Pci.{pairsAll, values, parsePairs, toPci, fromPci}
 use Rattle.rules.specs.Valid.{AllValid}
-use Rattle.rules.proofs.Numbers.{RefusesList, parse-refuses}
-use Rattle.rules.proofs.Bits.{SetParsed, other, parse-set, pairs-set}
-use Rattle.rules.proofs.Pci.{pairs-refuses}
-use Rattle.rules.proofs.Parse.{parse-accepted}
-use Rattle.rules.proofs.Differing.{sets-outside}
-use Rattle.rules.proofs.Form.{form-accepted, form-fits, form-same, same-form, same-effect, normal-again}
-use Rattle.rules.proofs.Records.{records-count, records-same}
-use Rattle.rules.proofs.Verdict.{written-accept, Reads, reads, reading-zero, Normalises, normalises, normalising-zero}
+use Rattle.theory.proofs.Numbers.{RefusesList, parse-refuses}
+use Rattle.theory.proofs.Bits.{SetParsed, other, parse-set, pairs-set}
+use Rattle.theory.proofs.Pci.{pairs-refuses}
+use Rattle.theory.proofs.Parse.{parse-accepted}
+use Rattle.theory.proofs.Differing.{sets-outside}
+use Rattle.theory.proofs.Form.{form-accepted, form-fits, form-same, same-form, same-effect, normal-again}
+use Rattle.theory.proofs.Records.{records-count, records-same}
+use Rattle.theory.proofs.Verdict.{written-accept, Reads, reads, reading-zero, Normalises, normalises, normalising-zero}
 
 -- ---- a refusal
 

@@ -1,0 +1,15 @@
+pub mod Bools
+pub mod Image
+pub mod Rows
+pub mod Valid
+pub mod Parse
+pub mod Differing
+pub mod Form
+pub mod Numbers
+pub mod Bits
+pub mod Verdict
+pub mod Records
+pub mod Outcomes
+pub mod Pci
+pub mod Demands
+pub mod Walk
