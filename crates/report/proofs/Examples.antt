@@ -8,8 +8,10 @@ use Rattle.rules.specs.Values.{faults}
 use Rattle.rules.specs.Decode.{decodeRow, decode}
 use Rattle.rules.specs.Walk.{outOfOrder, orderAfter, step, walk, parse}
 use Rattle.rules.specs.Answer.{reading}
-use Rattle.report.specs.Text.{hex, decimal, line, twoNumbers}
-use Rattle.report.specs.Listing.{wordsOf, readBytes, listed}
+use Rattle.endian.specs.Words.{wordsOf}
+use Rattle.text.specs.Text.{hex, decimal}
+use Rattle.report.specs.Lines.{line, twoNumbers}
+use Rattle.report.specs.Listing.{readBytes, listed}
 use Rattle.report.specs.Examples.{every, examples}
 
 pub examples-hold : every examples ≡ true

@@ -1,7 +1,5 @@
-pub mod Parts
-pub mod Chunks
+pub mod Lines
 pub mod Sizes
-pub mod Words
 pub mod Printed
 pub mod Examples
 pub mod Reader

@@ -8,9 +8,12 @@ use lib.ListN.{length, length-append}
 use lib.Seq.{sets}
 use Rattle.rules.specs.declared.Answer.{Answer}
 use Rattle.rules.specs.Answer.{Outcome, reading}
-use Rattle.report.specs.Text.{ascii, line, twoNumbers}
-use Rattle.report.specs.Listing.{chunks, wordsOf, readBytes, wordsRead, listed, textOf, Printed, printed}
-use Rattle.report.specs.Puts.{Puts, Bounded, Prints}
+use Rattle.endian.specs.Words.{chunks, wordsOf}
+use Rattle.text.specs.Text.{ascii}
+use Rattle.text.specs.Puts.{Puts, Bounded}
+use Rattle.report.specs.Lines.{line, twoNumbers}
+use Rattle.report.specs.Listing.{readBytes, wordsRead, listed, textOf, Printed, printed}
+use Rattle.report.specs.Prints.{Prints}
 use Rattle.report.proofs.Sizes.{printed-length}
 
 module _ (a : Answer) (ws : List ℕ) where

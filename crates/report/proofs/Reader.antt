@@ -15,8 +15,10 @@ use Rattle.theory.proofs.Numbers.{Proper, parse-refuses}
 use Rattle.theory.proofs.Records.{records-few}
 use Rattle.theory.proofs.Verdict.{reads, written-accept}
 use Rattle.theory.proofs.Parse.{parse-accepted}
-use Rattle.report.specs.Text.{ascii, line, twoNumbers}
-use Rattle.report.specs.Listing.{chunks, wordsOf, readBytes, textOf}
+use Rattle.endian.specs.Words.{chunks, wordsOf}
+use Rattle.text.specs.Text.{ascii}
+use Rattle.report.specs.Lines.{line, twoNumbers}
+use Rattle.report.specs.Listing.{readBytes, textOf}
 use Rattle.report.proofs.Printed.{listed-refused, listed-accepted}
 
 abbrev pub recordLines : List Record → List ℕ

@@ -1,12 +1,10 @@
 -- How much the reader writes, and how long a listing can be.
-use Prim.Native.Nat.{ℕ, zero, suc, _+_, _*_, _/_, _%_, _^_, _≤_, _<_}
+use Prim.Native.Nat.{ℕ, suc, _+_, _*_, _/_, _%_, _≤_}
 use native.Mathlib.Omega.{arith}
-use native.Mathlib.Nat.{pow-suc}
 use mathlib.Core.Path.{_≡_, refl, ap}
 use mathlib.Core.Bool.{Bool, true, false, cond}
 use mathlib.Core.List.{List, [], _∷_, _++_}
 use lib.Dec.{eqb, ltb}
-use borrow.Author.Tests.{ltb-true, ltb-false}
 use lib.ListN.{length, drop, length-append}
 use Rattle.rules.specs.declared.Answer.{Answer}
 use Rattle.rules.specs.declared.Refusal.{Refusal}
@@ -19,10 +17,13 @@ use Rattle.rules.specs.Records.{Record, records, recordWords}
 use Rattle.rules.specs.Answer.{Outcome, refuse, accept, fitting, room, readParsed, reading}
 use Rattle.theory.proofs.Verdict.{written-accept}
 use Rattle.theory.proofs.Parse.{parse-accepted}
-use Rattle.report.specs.Text.{ascii, digit, hex, decimalOf, decimal, line, twoNumbers}
-use Rattle.report.specs.Listing.{chunks, wordsOf, readBytes, listed, textOf, printed}
-use Rattle.report.specs.Puts.{Bounded}
-use Rattle.report.proofs.Parts.{decimal-one, decimal-longer}
+use Rattle.endian.specs.Words.{chunks, wordsOf}
+use Rattle.text.specs.Text.{ascii}
+use Rattle.text.specs.Puts.{Bounded}
+use Rattle.text.proofs.Numbers.{length-cond}
+use Rattle.report.specs.Lines.{line, twoNumbers}
+use Rattle.report.specs.Listing.{readBytes, listed, textOf, printed}
+use Rattle.report.proofs.Lines.{two-length, line-length}
 
 module _ (ws image buffer : List ℕ) where
   -- what holds of each refusal, and of each acceptance
@@ -46,45 +47,6 @@ module _ (ws image buffer : List ℕ) where
       (λ cs a. let out : List ℕ = recordWords (records 0 cs) in omega (arith, length-append out (drop (length out) buffer))))
 
 -- ---- the text
-
-length-cond : (b : Bool) (p q : List ℕ) (m : ℕ) → length p ≤ m → length q ≤ m → length (cond b p q) ≤ m
-length-cond true p q m h k = h
-length-cond false p q m h k = k
-
-of-length : (k n : ℕ) → length (decimalOf k n) ≤ k
-unfolding decimalOf
-of-length zero n = omega arith
-of-length (suc k) n =
-    length-cond (ltb n 10) (digit n ∷ []) (decimalOf k (n / 10) ++ (digit (n % 10) ∷ [])) (suc k) (omega arith)
-    (omega (arith, of-length k (n / 10), length-append (decimalOf k (n / 10)) (digit (n % 10) ∷ [])))
-
-decimal-length : (n : ℕ) → length (decimal n) ≤ 20
-unfolding decimal
-decimal-length n = of-length 20 n
-
--- a small number has few digits
-decimal-short : (k n : ℕ) → n < 10 ^ suc k → n < 2 ^ 64 → length (decimal n) ≤ suc k
-decimal-short zero n h l = omega (arith, ap length (decimal-one n h))
-decimal-short (suc k) n h l =
-    (elim (ltb n 10) as (λ t. ltb n 10 ≡ t → length (decimal n) ≤ suc (suc k)) [
-      | true ↦ λ e. omega (arith, ap length (decimal-one n (ltb-true n 10 e)))
-      | false ↦ λ e.
-          let small : n / 10 < 10 ^ suc k = omega (arith, pow-suc 10 (suc k)) in
-          omega (arith, decimal-longer n (ltb-false n 10 e) l, decimal-short k (n / 10) small (omega arith))
-    ]) refl
-
-hex-length : (k n : ℕ) → length (hex k n) ≡ k
-unfolding hex
-hex-length zero n = refl
-hex-length (suc k) n = omega (arith, hex-length k (n / 16), length-append (hex k (n / 16)) (digit (n % 16) ∷ []))
-
-pub two-length : (f s : List ℕ) (m n : ℕ) → length (twoNumbers f m s n) ≤ length f + length s + 41
-unfolding twoNumbers
-two-length f s m n = simp length-append (omega (arith, decimal-length m, decimal-length n))
-
-line-length : (id p n h : ℕ) → p < 10000 → n < 10000 → length (line id p n h) ≤ 20
-unfolding line
-line-length id p n h a b = simp (length-append, hex-length) (omega (arith, decimal-short 3 p a (omega arith), decimal-short 3 n b (omega arith)))
 
 -- the records of some commands take at most twenty bytes for each word of the commands
 lines-length : (p : ℕ) (cs : List Command) → p + length (wordsAll cs) ≤ 4096 → length (chunks line (recordWords (records p cs))) ≤ 20 * length (wordsAll cs)

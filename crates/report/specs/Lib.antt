@@ -1,4 +1,4 @@
-pub mod Text
+pub mod Lines
 pub mod Listing
-pub mod Puts
+pub mod Prints
 pub mod Examples

@@ -1,29 +1,16 @@
 -- The listing of some bytes (document 01, "The listing").
-use Prim.Native.Nat.{ℕ, _+_, _*_, _/_, _%_}
+use Prim.Native.Nat.{ℕ, _/_, _%_}
 use mathlib.Core.Bool.{cond}
-use mathlib.Core.List.{List, [], _∷_, _++_}
+use mathlib.Core.List.{List, [], _++_}
 use lib.Dec.{eqb, ltb}
 use lib.ListN.{length}
 use lib.Seq.{sets}
 use Rattle.rules.specs.declared.Answer.{Answer}
 use Rattle.rules.specs.Values.{refusal}
 use Rattle.rules.specs.Answer.{Outcome, refuse, reading, written}
-use Rattle.report.specs.Text.{ascii, line, twoNumbers}
-
--- what is made of each chunk of four numbers, one behind the other; fewer at the end are left out
-abbrev pub chunks : (ℕ → ℕ → ℕ → ℕ → List ℕ) → List ℕ → List ℕ
-chunks f [] = []
-chunks f (a ∷ []) = []
-chunks f (a ∷ b ∷ []) = []
-chunks f (a ∷ b ∷ c ∷ []) = []
-chunks f (a ∷ b ∷ c ∷ d ∷ rest) = f a b c d ++ chunks f rest
-
--- "The program reads standard input as little-endian words".
-abbrev pub littleEndian : ℕ → ℕ → ℕ → ℕ → ℕ
-littleEndian a b c d = a + b * 0x100 + c * 0x10000 + d * 0x1000000
-
-unfoldable pub wordsOf : List ℕ → List ℕ
-wordsOf input = chunks (λ a b c d. littleEndian a b c d ∷ []) input
+use Rattle.endian.specs.Words.{chunks, wordsOf}
+use Rattle.text.specs.Text.{ascii}
+use Rattle.report.specs.Lines.{line, twoNumbers}
 
 -- "Over 16,384 bytes is refusal 1, ahead of 12; 12 comes before any command is read." 12 is "bytes not a multiple of
 -- four".

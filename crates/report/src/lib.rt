@@ -1,68 +1,16 @@
-// The listing of a command list, as text in a lent buffer.
+// The listing of a command list, as text in a lent buffer. A part of it goes from position `at` on, and the answer is the
+// position behind it.
 use rules::Answer;
 ghost use mathlib.Core.Path.{_≡_};
-ghost use mathlib.Core.List.{[], _∷_};
 ghost use Prim.Native.Nat.{_+_, _<_, _≤_};
 ghost use lib.ListN.{length, take};
-ghost use lib.Seq.{sets};
 ghost use Rattle.rules.specs.Answer.{reading};
-ghost use Rattle.report.specs.Text.{ascii, digit, hex, decimal, line, twoNumbers};
-ghost use Rattle.report.specs.Listing.{chunks, littleEndian, wordsOf, listed, printed};
-ghost use Rattle.report.specs.Puts.{Puts, Bounded, Prints, lineAt};
-
-// ---- parts of the text: each goes from position `at` on, and answers the position behind it
-
-fn put(text: &mut [u8], at: usize, byte: u8) -> usize
-    requires { ⌜ Bounded at (byte ∷ []) ⌝ }
-    ensures { λ r. ⌜ Puts (byte ∷ []) (now (text .entry)) at (now (text .exit)) r ⌝ }
-{
-    if at < text.len() {
-        text[at] = byte;
-    }
-    at + 1
-}
-
-fn put_all(text: &mut [u8], at: usize, bytes: &[u8]) -> usize
-    requires { ⌜ Bounded at (now bytes) ⌝ }
-    ensures { λ r. ⌜ Puts (now (bytes .entry)) (now (text .entry)) at (now (text .exit)) r ⌝ }
-{
-    let mut i = 0;
-    while i < bytes.len() {
-        put(text, at + i, bytes[i]);
-        i += 1;
-    }
-    at + i
-}
-
-fn digit(d: usize) -> u8
-    requires { ⌜ d < 16 ⌝ }
-    ensures { λ r. ⌜ r ≡ digit d ⌝ }
-{
-    let d = d as u8;
-    if d < 10 { b'0' + d } else { b'a' - 10 + d }
-}
-
-fn put_decimal(text: &mut [u8], at: usize, n: usize) -> usize
-    requires { ⌜ Bounded at (decimal n) ⌝ }
-    ensures { λ r. ⌜ Puts (decimal n) (now (text .entry)) at (now (text .exit)) r ⌝ }
-{
-    if n < 10 {
-        return put(text, at, digit(n));
-    }
-    let last = put_decimal(text, at, n / 10);
-    put(text, last, digit(n % 10))
-}
-
-fn put_hex(text: &mut [u8], at: usize, digits: usize, n: usize) -> usize
-    requires { ⌜ Bounded at (hex digits n) ⌝ }
-    ensures { λ r. ⌜ Puts (hex digits n) (now (text .entry)) at (now (text .exit)) r ⌝ }
-{
-    if digits == 0 {
-        return at;
-    }
-    let last = put_hex(text, at, digits - 1, n / 16);
-    put(text, last, digit(n % 16))
-}
+ghost use Rattle.endian.specs.Words.{chunks};
+ghost use Rattle.text.specs.Text.{ascii};
+ghost use Rattle.text.specs.Puts.{Puts, Bounded};
+ghost use Rattle.report.specs.Lines.{line, twoNumbers};
+ghost use Rattle.report.specs.Listing.{listed, printed};
+ghost use Rattle.report.specs.Prints.{Prints, lineAt};
 
 // ---- lines
 
@@ -77,14 +25,14 @@ fn put_line(
     requires { ⌜ Bounded at (line id position words header) ⌝ }
     ensures { λ r. ⌜ Puts (line id position words header) (now (text .entry)) at (now (text .exit)) r ⌝ }
 {
-    let at = put_decimal(text, at, position);
-    let at = put(text, at, b' ');
-    let at = put_hex(text, at, 2, id);
-    let at = put(text, at, b' ');
-    let at = put_decimal(text, at, words);
-    let at = put(text, at, b' ');
-    let at = put_hex(text, at, 6, header);
-    put(text, at, b'\n')
+    let at = text::put_decimal(text, at, position);
+    let at = text::put_all(text, at, b" ");
+    let at = text::put_hex(text, at, 2, id);
+    let at = text::put_all(text, at, b" ");
+    let at = text::put_decimal(text, at, words);
+    let at = text::put_all(text, at, b" ");
+    let at = text::put_hex(text, at, 6, header);
+    text::put_all(text, at, b"\n")
 }
 
 // The line of the record whose first word is at `i`.
@@ -126,11 +74,11 @@ fn put_two_numbers(
     requires { ⌜ Bounded at (twoNumbers (now first) m (now second) n) ⌝ }
     ensures { λ r. ⌜ Puts (twoNumbers (now (first .entry)) m (now (second .entry)) n) (now (text .entry)) at (now (text .exit)) r ⌝ }
 {
-    let at = put_all(text, at, first);
-    let at = put_decimal(text, at, m);
-    let at = put_all(text, at, second);
-    let at = put_decimal(text, at, n);
-    put(text, at, b'\n')
+    let at = text::put_all(text, at, first);
+    let at = text::put_decimal(text, at, m);
+    let at = text::put_all(text, at, second);
+    let at = text::put_decimal(text, at, n);
+    text::put_all(text, at, b"\n")
 }
 
 fn put_refusal(text: &mut [u8], number: usize, position: usize) -> usize
@@ -147,7 +95,7 @@ fn put_answer(text: &mut [u8], a: Answer, records: &[u32]) -> usize
     if a.verdict != 0 {
         return put_refusal(text, words::wide(a.verdict), a.position);
     }
-    let at = put_all(text, 0, b"at id words head\n");
+    let at = text::put_all(text, 0, b"at id words head\n");
     let at = put_lines(text, at, records);
     put_two_numbers(
         text,
@@ -157,30 +105,6 @@ fn put_answer(text: &mut [u8], a: Answer, records: &[u32]) -> usize
         b" items ",
         a.records,
     )
-}
-
-// ---- words
-
-fn little_endian(a: u8, b: u8, c: u8, d: u8) -> u32
-    ensures { λ r. ⌜ r ≡ littleEndian a b c d ⌝ }
-{
-    (a as u32) + (b as u32) * 0x100 + (c as u32) * 0x10000 + (d as u32) * 0x1000000
-}
-
-// The words of some bytes go to the front of `words`, as many as there is room for. Bytes that make no whole word are left
-// out.
-pub fn load(input: &[u8], words: &mut [u32])
-    ensures { λ _. ⌜ now (words .exit) ≡ sets (now (words .entry)) 0 (wordsOf (now (input .entry))) ⌝ }
-{
-    let mut i = 0;
-    while i < input.len() / 4 {
-        let at = 4 * i;
-        let word = little_endian(input[at], input[at + 1], input[at + 2], input[at + 3]);
-        if i < words.len() {
-            words[i] = word;
-        }
-        i += 1;
-    }
 }
 
 // ---- the listing
@@ -220,6 +144,6 @@ pub fn listing(
     if input.len() % 4 != 0 {
         return put_refusal(text, 12, input.len() / 4);
     }
-    load(input, words);
+    endian::load(input, words);
     put_list(words, input.len() / 4, image, records, text)
 }

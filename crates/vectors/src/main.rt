@@ -219,7 +219,7 @@ fn print(tally: &[u32; TALLY]) {
 // The next words of standard input, by way of a buffer for their bytes.
 fn load_words(bytes: &mut [u8], words: &mut [u32]) -> usize {
     let n = io::read_full(0, bytes);
-    report::load(&bytes[..n], words);
+    endian::load(&bytes[..n], words);
     n / 4
 }
 

@@ -1,10 +1,10 @@
 use lib.Seq.{length-sets}
-use Rattle.report.specs.Listing.{wordsOf}
+use Rattle.endian.specs.Words.{wordsOf}
 use Prim.Native.Nat.{_/_, _≤_}
 use native.Mathlib.Omega.{arith}
 use mathlib.Core.Path.{ap, _∙_}
 use lib.ListN.{length, take}
-use Rattle.report.proofs.Words.{words-front}
+use Rattle.endian.proofs.Words.{words-front}
 use Rattle.report.proofs.Printed.{printed-over, printed-uneven, printed-whole, and-short}
 use borrow.Author.Needs.{needs}
 use Rattle.report.proofs.listing.Statement.{statement}

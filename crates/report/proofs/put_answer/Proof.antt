@@ -1,6 +1,6 @@
 use Rattle.report.proofs.Printed.{listed-refused, listed-accepted, listed-bound}
 use native.Mathlib.Omega.{arith}
-use Rattle.report.proofs.Parts.{puts-then}
+use Rattle.text.proofs.Parts.{puts-then}
 use borrow.Author.Needs.{needs}
 use Rattle.report.proofs.put_answer.Statement.{statement}
 use Rattle.report.proofs.put_answer.Tie as tie

@@ -2,11 +2,11 @@ use Prim.Native.Nat.{_+_, _*_, _-_, _≤_, _<_}
 use native.Mathlib.Omega.{arith}
 use mathlib.Core.Path.{refl}
 use lib.ListN.{length, take}
-use Rattle.report.specs.Text.{line}
-use Rattle.report.specs.Listing.{chunks}
-use Rattle.report.specs.Puts.{Puts}
-use Rattle.report.proofs.Parts.{puts-then, puts-length}
-use Rattle.report.proofs.Chunks.{chunks-more, chunks-all, chunks-bound}
+use Rattle.endian.specs.Words.{chunks}
+use Rattle.endian.proofs.Chunks.{chunks-more, chunks-all, chunks-bound}
+use Rattle.text.specs.Puts.{Puts}
+use Rattle.text.proofs.Parts.{puts-then, puts-length}
+use Rattle.report.specs.Lines.{line}
 use Rattle.report.proofs.put_lines.Statement.{statement}
 use Rattle.report.proofs.put_lines.Tie as tie
 

@@ -1,6 +1,6 @@
 use native.Mathlib.Omega.{arith}
-use Rattle.report.specs.Text.{ascii}
-use Rattle.report.proofs.Sizes.{two-length}
+use Rattle.text.specs.Text.{ascii}
+use Rattle.report.proofs.Lines.{two-length}
 use borrow.Author.Needs.{needs}
 use Rattle.report.proofs.put_refusal.Statement.{statement}
 use Rattle.report.proofs.put_refusal.Tie as tie

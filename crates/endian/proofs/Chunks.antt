@@ -5,7 +5,7 @@ use mathlib.Core.Path.{_≡_, refl, ap, sym, _∙_}
 use mathlib.Core.List.{List, [], _∷_, _++_, append-assoc, append-nil}
 use lib.ListN.{length, getD, take, drop, length-append, length-drop, take-append-drop}
 use lib.Seq.{take-add, getD-drop, length-take-le}
-use Rattle.report.specs.Listing.{chunks}
+use Rattle.endian.specs.Words.{chunks}
 
 module _ (f : ℕ → ℕ → ℕ → ℕ → List ℕ) where
   pub chunks-append : (p q : List ℕ) → length p % 4 ≡ 0 → chunks f (p ++ q) ≡ chunks f p ++ chunks f q

@@ -3,8 +3,8 @@ use mathlib.Core.Logic.{⊎-elim}
 use lib.ListN.{length, length-set}
 use lib.Seq.{set-out}
 use borrow.Author.Needs.{needs}
-use Rattle.report.proofs.put.Statement.{statement}
-use Rattle.report.proofs.put.Tie as tie
+use Rattle.text.proofs.put.Statement.{statement}
+use Rattle.text.proofs.put.Tie as tie
 
 same-length : tie.Need-same-length
 same-length c = ⊎-elim (λ w. ap length (w .1) ∙ simp length-set) (λ w. ap length (w .1)) (c .if1 .came)

@@ -1,4 +1,4 @@
--- The lines of a listing (document 01, "The listing").
+-- Bytes and numbers as text (document 01, "The listing").
 use Prim.Native.Nat.{ℕ, zero, suc, _+_, _/_, _%_}
 use Prim.Native.Char.{code}
 use Prim.Native.String.{String, [] as none, _∷_ as _then_}
@@ -29,13 +29,3 @@ decimalOf (suc k) n = cond (ltb n 10) (digit n ∷ []) (decimalOf k (n / 10) ++ 
 unfoldable pub decimal : ℕ → List ℕ
 unfolding decimalOf
 decimal n = decimalOf 20 n
-
--- "a line per record: position decimal, id as two hex digits, length decimal, header as six hex digits"
-unfoldable pub line : ℕ → ℕ → ℕ → ℕ → List ℕ
-line id position size header =
-    decimal position
-    ++ (ascii " " ++ (hex 2 id ++ (ascii " " ++ (decimal size ++ (ascii " " ++ (hex 6 header ++ ascii "\n"))))))
-
--- a line of two numbers, each behind its words
-unfoldable pub twoNumbers : List ℕ → ℕ → List ℕ → ℕ → List ℕ
-twoNumbers first m second n = first ++ (decimal m ++ (second ++ (decimal n ++ ascii "\n")))

@@ -4,14 +4,15 @@ use mathlib.Core.Path.{refl}
 use borrow.Author.Needs.{needs}
 use borrow.Fn.Kinds.{In}
 use borrow.Fn.PlainCycle.{Measures, is, falls, and}
-use Rattle.report.proofs.Parts.{puts-then, puts-length, hex-none, hex-more, hex-longer}
-use Rattle.report.proofs.put_hex.Reads as put-hex
-use Rattle.report.proofs.put_hex.Kinds as put-hex-kinds
-use Rattle.report.proofs.+put_hex.Lts-put_hex as put-hex-lts
-use Rattle.report.proofs.digit.Reads as digit-reads
-use Rattle.report.proofs.put.Reads as put-reads
-use Rattle.report.proofs.+put_hex.{statement}
-use Rattle.report.proofs.+put_hex.Tie.{close}
+use Rattle.text.proofs.Parts.{puts-then, puts-length}
+use Rattle.text.proofs.Numbers.{hex-none, hex-more, hex-longer}
+use Rattle.text.proofs.put_hex.Reads as put-hex
+use Rattle.text.proofs.put_hex.Kinds as put-hex-kinds
+use Rattle.text.proofs.+put_hex.Lts-put_hex as put-hex-lts
+use Rattle.text.proofs.digit.Reads as digit-reads
+use Rattle.text.proofs.put.Reads as put-reads
+use Rattle.text.proofs.+put_hex.{statement}
+use Rattle.text.proofs.+put_hex.Tie.{close}
 
 abbrev μ : Measures 1 put-hex-kinds.ps ℕ
 μ κs a = a .1 .1 .0

@@ -5,9 +5,9 @@ use mathlib.Core.Path.{_≡_, ap, ap₂, _∙_}
 use mathlib.Core.List.{List, [], _∷_}
 use lib.ListN.{length, getD, take, set}
 use lib.Seq.{sets, sets-eq, take-at, length-take-le}
-use Rattle.report.specs.Listing.{littleEndian, wordsOf}
+use Rattle.endian.specs.Words.{littleEndian, wordsOf}
 use Rattle.theory.proofs.Image.{sets-append}
-use Rattle.report.proofs.Chunks.{chunks-more, chunks-all}
+use Rattle.endian.proofs.Chunks.{chunks-more, chunks-all}
 
 pub words-length : (bs : List ℕ) → length (wordsOf bs) ≡ length bs / 4
 unfolding wordsOf

@@ -1,11 +1,11 @@
-use Rattle.report.proofs.Parts.{puts-more, puts-all, puts-length}
+use Rattle.text.proofs.Parts.{puts-more, puts-all, puts-length}
 use Prim.Native.Nat.{_≤_, _-_}
 use native.Mathlib.Omega.{arith}
 use mathlib.Core.Path.{_≡_, refl}
 use lib.ListN.{length, take}
 use lib.Seq.{sets}
-use Rattle.report.proofs.put_all.Statement.{statement}
-use Rattle.report.proofs.put_all.Tie as tie
+use Rattle.text.proofs.put_all.Statement.{statement}
+use Rattle.text.proofs.put_all.Tie as tie
 
 abbrev Inv-loop : tie.InvT-loop
 Inv-loop text₀ at bytes i₀ text i = (i ≤ length bytes) × (text ≡ sets text₀ at (take i bytes))

@@ -4,10 +4,10 @@ use mathlib.Core.Path.{_≡_, refl, ap, sym, _∙_}
 use mathlib.Core.Logic.{⊎-elim}
 use lib.ListN.{length, take}
 use lib.Seq.{sets, set-out, length-sets}
-use Rattle.report.specs.Listing.{wordsOf}
-use Rattle.report.proofs.Words.{words-more, words-all}
-use Rattle.report.proofs.load.Statement.{statement}
-use Rattle.report.proofs.load.Tie as tie
+use Rattle.endian.specs.Words.{wordsOf}
+use Rattle.endian.proofs.Words.{words-more, words-all}
+use Rattle.endian.proofs.load.Statement.{statement}
+use Rattle.endian.proofs.load.Tie as tie
 
 abbrev Inv-loop : tie.InvT-loop
 Inv-loop input words₀ i₀ words i = (4 * i ≤ length input) × (words ≡ sets words₀ 0 (wordsOf (take (4 * i) input)))
