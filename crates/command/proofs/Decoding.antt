@@ -21,11 +21,11 @@ use Rattle.theory.proofs.Numbers.{faults-proper}
 use Rattle.table.specs.declared.Group.{Group}
 use Rattle.command.specs.declared.Decoded.the-variants.{Command, Refused}
 use Rattle.table.specs.Ids.{ofRow, isGroup, groupId}
-use Rattle.table.specs.Tables.{more, beginRow, rowNumber, rowTable, rowAt, rowMasks}
+use Rattle.table.specs.Tables.{more, beginRow, rowNumber, rowTable, rowAt, rowMasks, groupAt}
 use Rattle.values.specs.First.{firstRefusal, found}
 use Rattle.faults.specs.Faults.{own, outside}
 use Rattle.values.specs.First.{none as noFault}
-use Rattle.command.specs.View.{groupAt, sizeAt, refusedAt, singleOf, groupOf, view, decodedAt, KnownAt}
+use Rattle.command.specs.View.{sizeAt, refusedAt, singleOf, groupOf, view, decodedAt, KnownAt}
 use Rattle.table.proofs.Tables.{Known, ruled, known, known-row, unknown-row, row-at}
 use Rattle.faults.proofs.FirstFault.{first-fault, first-near, faulty-is, single-fault}
 

@@ -18,9 +18,6 @@ use Rattle.command.specs.declared.Decoded.the-variants.{Command, Refused
 use Rattle.table.specs.Ids.{groupId}
 use Rattle.table.specs.Tables.{baseRow, timerRow, beginRow, clipRow, rowNumber}
 
-abbrev pub groupAt : List ℕ → ℕ → Group
-groupAt l at = record { header = headerOf (getD l at 0); second = getD l (at + 1) 0; third = getD l (at + 2) 0; fourth = getD l (at + 3) 0 }
-
 -- the words of the command at a position, payload included
 abbrev pub sizeAt : List ℕ → ℕ → ℕ
 sizeAt l at = commandSize (getD l at 0) (drop (suc at) l)

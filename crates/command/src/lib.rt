@@ -10,9 +10,9 @@ ghost use Rattle.rules.specs.Command.{payload};
 ghost use Rattle.rules.specs.Values.{shift};
 ghost use Rattle.rules.specs.Decode.{unknown};
 ghost use Rattle.table.specs.Ids.{groupId};
-ghost use Rattle.table.specs.Tables.{more};
+ghost use Rattle.table.specs.Tables.{more, groupAt};
 ghost use Rattle.command.specs.declared.Decoded.the-variants as decoded;
-ghost use Rattle.command.specs.View.{groupAt, sizeAt, OwnAt, decodedAt, refusedAt, singleOf, groupOf, KnownAt};
+ghost use Rattle.command.specs.View.{sizeAt, OwnAt, decodedAt, refusedAt, singleOf, groupOf, KnownAt};
 
 // A decoded command: its words with payload, and whether it is a setting, a BEGIN, a surface base.
 pub struct Command {

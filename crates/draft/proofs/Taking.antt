@@ -11,8 +11,8 @@ use Rattle.rules.specs.Word.{idOf}
 use Rattle.rules.specs.Form.{read}
 use Rattle.table.specs.Ids.{settingKind}
 use Rattle.command.specs.View.{sizeAt}
-use Rattle.list.specs.Effects.{idAt}
-use Rattle.list.proofs.Effects.{no-kind, is-group, is-single}
+use Rattle.command.specs.Effects.{idAt}
+use Rattle.command.proofs.Effects.{no-kind, is-group, is-single}
 use Rattle.settings.specs.Numbers.{numberOf}
 use Rattle.settings.specs.Output.{Output, emitChanged}
 use Rattle.draft.specs.declared.Draft.{Draft}

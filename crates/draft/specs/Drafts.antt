@@ -10,7 +10,7 @@ use lib.Seq.{sets}
 use Rattle.rules.specs.Form.{read}
 use Rattle.table.specs.Ids.{settingKind}
 use Rattle.command.specs.View.{sizeAt}
-use Rattle.list.specs.Effects.{idAt, CommandAt}
+use Rattle.command.specs.Effects.{idAt, CommandAt}
 use Rattle.draft.specs.declared.Draft.{Draft}
 use Rattle.settings.specs.Numbers.{numberOf}
 use Rattle.settings.specs.Output.{longest, Output, emitChanged, CanEmitChanged}

@@ -30,7 +30,7 @@ use Rattle.theory.proofs.Form.{is-setting, form-nil, form-setting, form-work, f
 use Rattle.table.specs.Ids.{settingId, settingKind}
 use Rattle.command.specs.View.{sizeAt}
 use Rattle.table.proofs.Tables.{setting-is}
-use Rattle.list.specs.Effects.{idAt, CommandAt}
+use Rattle.command.specs.Effects.{idAt, CommandAt}
 use Rattle.list.proofs.Position.{Position, position-start, position-end, AtCommand, after, at-command, command-at}
 use Rattle.settings.specs.Numbers.{holds, numberOf}
 use Rattle.settings.specs.Output.{longest, Output, emitChanged, CanEmitChanged}

@@ -1,4 +1,3 @@
 pub mod Steps
 pub mod Position
-pub mod Effects
 pub mod Answers

@@ -18,7 +18,7 @@ use Rattle.theory.proofs.Form.{wordsAll-append}
 use Rattle.table.specs.Tables.{rowAt}
 use Rattle.command.specs.View.{sizeAt}
 use Rattle.table.proofs.Tables.{row-is, known-row}
-use Rattle.list.specs.Effects.{idAt, commandAt, CommandAt}
+use Rattle.command.specs.Effects.{idAt, commandAt, CommandAt}
 
 -- the commands of a list before a position and from it on
 pub record Position (all : List Command) (l : List ℕ) (at : ℕ) : Type 0 where

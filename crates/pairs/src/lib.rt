@@ -6,7 +6,7 @@ ghost use mathlib.Core.Path.{_≡_};
 ghost use Prim.Native.Nat.{_+_, _<_, _≤_};
 ghost use lib.ListN.{length, getD};
 ghost use Rattle.rules.specs.Pci.{address, values};
-ghost use Rattle.command.specs.View.{groupAt};
+ghost use Rattle.table.specs.Tables.{groupAt};
 ghost use Rattle.pairs.specs.View.{addresses};
 
 // The address of a command's word, counted from 0.

@@ -17,10 +17,10 @@ use Rattle.rules.specs.Pci.{address, values, unless}
 use Rattle.theory.proofs.Bools.{and-left, and-right}
 use Rattle.table.specs.declared.Group.{Group}
 use Rattle.table.specs.Ids.{groupId}
-use Rattle.table.specs.Tables.{more}
+use Rattle.table.specs.Tables.{more, groupAt}
 use Rattle.command.specs.declared.Decoded.{Decoded}
 use Rattle.command.specs.declared.Decoded.the-variants as decoded
-use Rattle.command.specs.View.{groupAt, sizeAt, KnownAt}
+use Rattle.command.specs.View.{sizeAt, KnownAt}
 use Rattle.command.proofs.Decoding.{size-group, size-least, size-single}
 use Rattle.list.specs.declared.Cursor.{Cursor}
 use Rattle.list.specs.declared.Step.the-variants.{On, Refused}

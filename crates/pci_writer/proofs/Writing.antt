@@ -20,12 +20,12 @@ use Rattle.theory.proofs.Image.{sets-append}
 use Rattle.theory.proofs.Pci.{pairs-length}
 use Rattle.table.specs.declared.Group.{Group}
 use Rattle.table.specs.Ids.{ofRow, beginId, groupId}
-use Rattle.table.specs.Tables.{rowAt, more}
+use Rattle.table.specs.Tables.{rowAt, more, groupAt}
 use Rattle.table.proofs.Tables.{Known, known}
-use Rattle.command.specs.View.{groupAt, sizeAt}
+use Rattle.command.specs.View.{sizeAt}
 use Rattle.command.proofs.Decoding.{size-known, size-group, size-single}
-use Rattle.list.specs.Effects.{commandAt, CommandAt}
-use Rattle.list.proofs.Effects.{own-at}
+use Rattle.command.specs.Effects.{commandAt, CommandAt}
+use Rattle.command.proofs.Effects.{own-at}
 use Rattle.list.proofs.Position.{Position, position-start, position-end, AtCommand, after, at-command, command-at}
 
 -- ---- of some words

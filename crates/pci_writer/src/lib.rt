@@ -12,7 +12,7 @@ ghost use Rattle.rules.specs.Form.{read};
 ghost use Rattle.rules.specs.Answer.{commandsOf};
 ghost use Rattle.rules.specs.Pci.{commandPairs, pairsFrom, pairsAll, toPci};
 ghost use Rattle.command.specs.View.{sizeAt};
-ghost use Rattle.list.specs.Effects.{CommandAt, commandAt};
+ghost use Rattle.command.specs.Effects.{CommandAt, commandAt};
 
 // The pair of a command of one word.
 fn write_single(list: &[u32], pairs: &mut [u32], at: usize, id: u8)

@@ -22,8 +22,8 @@ use Rattle.theory.proofs.Image.{length-read, read-add}
 use Rattle.theory.proofs.Pci.{between, expected, expecting-none}
 use Rattle.table.specs.declared.Group.{Group}
 use Rattle.table.specs.Ids.{groupId}
-use Rattle.table.specs.Tables.{more}
-use Rattle.command.specs.View.{groupAt, sizeAt}
+use Rattle.table.specs.Tables.{more, groupAt}
+use Rattle.command.specs.View.{sizeAt}
 use Rattle.command.proofs.Decoding.{size-group, size-least, size-single}
 use Rattle.pairs.specs.View.{addresses}
 use Rattle.places.specs.View.{behind, placed, misplacedFrom, Sized, Leading}

@@ -15,7 +15,7 @@ use Rattle.theory.proofs.Differing.{length-final, final-append}
 use Rattle.theory.proofs.Records.{records-append, recordWords-append}
 use Rattle.command.specs.View.{sizeAt}
 use Rattle.reader.specs.declared.Place.{Place}
-use Rattle.list.specs.Effects.{commandAt, recordAt}
+use Rattle.command.specs.Effects.{commandAt, recordAt}
 use Rattle.reader.specs.Applied.{Applies, Applied}
 use Rattle.list.proofs.Position.{Position, position-start, position-end, AtCommand, after, at-command, command-at}
 

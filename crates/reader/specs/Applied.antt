@@ -6,7 +6,7 @@ use lib.ListN.{length}
 use lib.Seq.{sets}
 use Rattle.rules.specs.Image.{apply}
 use Rattle.command.specs.View.{sizeAt}
-use Rattle.list.specs.Effects.{commandAt, CommandAt, recordAt}
+use Rattle.command.specs.Effects.{commandAt, CommandAt, recordAt}
 use Rattle.reader.specs.declared.Place.{Place}
 
 -- the command can be applied to an image and a record buffer of which some words are written

@@ -14,7 +14,7 @@ ghost use Rattle.rules.specs.Records.{records, recordWords};
 ghost use Rattle.rules.specs.Answer.{reading, commandsOf};
 ghost use Rattle.table.specs.Ids.{settingKind};
 ghost use Rattle.command.specs.View.{sizeAt};
-ghost use Rattle.list.specs.Effects.{idAt, commandAt, CommandAt, recordAt};
+ghost use Rattle.command.specs.Effects.{idAt, commandAt, CommandAt, recordAt};
 ghost use Rattle.reader.specs.Applied.{Applies, Applied};
 
 // Where it stands: the position, and the words of the records written so far.

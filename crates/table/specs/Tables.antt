@@ -1,10 +1,11 @@
 -- The rows of document 01's table by their numbers: the table that a caller lends, and the masks by row and word.
-use Prim.Native.Nat.{ℕ, zero, suc}
+use Prim.Native.Nat.{ℕ, zero, suc, _+_}
 use mathlib.Core.Bool.{Bool, false, cond, _||_}
 use mathlib.Core.List.{List, [], _∷_}
 use mathlib.Core.Option.{Option, none, some}
 use lib.Dec.{eqb}
 use lib.ListN.{getD}
+use Rattle.rules.specs.Word.{headerOf}
 use Rattle.rules.specs.Table.{Row, plain, rowOf}
 use Rattle.table.specs.declared.Group.{Group}
 
@@ -82,6 +83,10 @@ masksOf r = record { header = maskOf r 0; second = maskOf r 1; third = maskOf r 
 -- a group's words after the first
 abbrev pub more : Group → List ℕ
 more g = g .second ∷ g .third ∷ g .fourth ∷ []
+
+-- the group whose first word stands at a position of a list
+abbrev pub groupAt : List ℕ → ℕ → Group
+groupAt l at = record { header = headerOf (getD l at 0); second = getD l (at + 1) 0; third = getD l (at + 2) 0; fourth = getD l (at + 3) 0 }
 
 -- the masks of a row by its number
 unfoldable pub rowMasks : ℕ → Group

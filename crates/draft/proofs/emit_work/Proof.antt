@@ -1,6 +1,6 @@
 use native.Mathlib.Omega.{arith}
 use mathlib.Core.Path.{ap}
-use Rattle.list.proofs.Effects.{own-at}
+use Rattle.command.proofs.Effects.{own-at}
 use Rattle.settings.specs.Output.{Output}
 use Rattle.draft.proofs.Taking.{worked}
 use borrow.Author.Needs.{needs}

@@ -1,8 +1,8 @@
 use mathlib.Core.Path.{_≡_, ap, sym, _∙_}
 use Rattle.rules.specs.Word.{idOf}
 use Rattle.table.specs.Ids.{settingKind}
-use Rattle.list.specs.Effects.{idAt}
-use Rattle.list.proofs.Effects.{no-kind, is-group, is-single}
+use Rattle.command.specs.Effects.{idAt}
+use Rattle.command.proofs.Effects.{no-kind, is-group, is-single}
 use Rattle.reader.proofs.Applying.{applied-setting}
 use borrow.Author.Needs.{needs}
 use Rattle.reader.proofs.apply_command.Statement.{statement}

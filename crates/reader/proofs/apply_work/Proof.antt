@@ -3,7 +3,7 @@ use Prim.Native.Nat.{_+_}
 use mathlib.Core.Path.{ap, ap₂, sym}
 use lib.ListN.{length}
 use Rattle.reader.specs.declared.Place.{Place}
-use Rattle.list.proofs.Effects.{own-at, is-work}
+use Rattle.command.proofs.Effects.{own-at, is-work}
 use borrow.Author.Needs.{needs}
 use Rattle.reader.proofs.apply_work.Statement.{statement}
 use Rattle.reader.proofs.apply_work.Tie as tie

@@ -2,8 +2,8 @@ use mathlib.Core.Path.{_≡_, sym, ap, _∙_}
 use borrow.Author.Tests.{not-true, not-false}
 use Rattle.rules.specs.Word.{idOf}
 use Rattle.table.proofs.Tables.{keptId}
-use Rattle.list.specs.Effects.{idAt}
-use Rattle.list.proofs.Effects.{is-work}
+use Rattle.command.specs.Effects.{idAt}
+use Rattle.command.proofs.Effects.{is-work}
 use borrow.Author.Needs.{needs}
 use Rattle.reader.proofs.leave_header.Statement.{statement}
 use Rattle.reader.proofs.leave_header.Tie as tie

@@ -1,8 +1,8 @@
 use native.Mathlib.Omega.{arith}
 use mathlib.Core.Path.{_≡_, sym, ap, _∙_}
 use Rattle.rules.specs.Word.{idOf}
-use Rattle.list.specs.Effects.{idAt}
-use Rattle.list.proofs.Effects.{is-group}
+use Rattle.command.specs.Effects.{idAt}
+use Rattle.command.proofs.Effects.{is-group}
 use borrow.Author.Needs.{needs}
 use Rattle.reader.proofs.set_group.Statement.{statement}
 use Rattle.reader.proofs.set_group.Tie as tie

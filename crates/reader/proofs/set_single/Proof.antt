@@ -1,5 +1,5 @@
 use mathlib.Core.Path.{sym}
-use Rattle.list.proofs.Effects.{is-single}
+use Rattle.command.proofs.Effects.{is-single}
 use borrow.Author.Needs.{needs}
 use Rattle.reader.proofs.set_single.Statement.{statement}
 use Rattle.reader.proofs.set_single.Tie as tie

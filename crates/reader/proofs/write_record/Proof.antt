@@ -1,5 +1,5 @@
 use mathlib.Core.Path.{_∙_}
-use Rattle.list.proofs.Effects.{is-work}
+use Rattle.command.proofs.Effects.{is-work}
 use borrow.Author.Needs.{needs}
 use Rattle.reader.proofs.write_record.Statement.{statement}
 use Rattle.reader.proofs.write_record.Tie as tie

@@ -15,11 +15,11 @@ use Rattle.theory.proofs.Bools.{and-left, and-right}
 use Rattle.theory.proofs.Rows.{Setting, setting-fits, setting-payload}
 use Rattle.theory.proofs.Form.{is-setting}
 use Rattle.table.specs.Ids.{ofRow, beginId, settingId, groupId, settingKind}
-use Rattle.table.specs.Tables.{more, rowAt}
-use Rattle.command.specs.View.{groupAt, sizeAt, OwnAt}
+use Rattle.table.specs.Tables.{more, rowAt, groupAt}
+use Rattle.command.specs.View.{sizeAt, OwnAt}
 use Rattle.table.proofs.Tables.{Known, known, keptId, leavesAs}
 use Rattle.command.proofs.Decoding.{group-words, size-known, size-group, size-single}
-use Rattle.list.specs.Effects.{idAt, headerAt, commandAt, CommandAt, recordAt}
+use Rattle.command.specs.Effects.{idAt, headerAt, commandAt, CommandAt, recordAt}
 
 -- ---- the kinds of the set
 
