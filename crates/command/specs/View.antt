@@ -5,13 +5,12 @@ use mathlib.Core.Bool.{true, false}
 use mathlib.Core.List.{List}
 use lib.Dec.{eqb, leb}
 use lib.ListN.{length, getD, drop}
-use Rattle.rules.specs.Word.{idOf, headerOf}
+use Rattle.rules.specs.Word.{idOf}
 use Rattle.rules.specs.Table.{isSetting, isBegin, isBase}
 use Rattle.rules.specs.Command.{commandSize}
 use Rattle.rules.specs.Command.{Command as RulesCommand}
 use Rattle.rules.specs.Values.{refusal, shift}
 use Rattle.rules.specs.Decode.{Decoded, bad, good, decode}
-use Rattle.table.specs.declared.Group.{Group}
 use Rattle.command.specs.declared.Command.{Command as Kept}
 use Rattle.command.specs.declared.Decoded.{Decoded as Decoded′}
 use Rattle.command.specs.declared.Decoded.the-variants.{Command, Refused}

@@ -1,11 +1,11 @@
 -- The first fault of a command, from the masks of its row.
-use Prim.Native.Nat.{ℕ, zero, suc, _-_, _/_, _%_, _^_, _≤_, _<_}
-use native.Mathlib.Nat.{pow-suc, zero-add}
+use Prim.Native.Nat.{ℕ, zero, suc, _-_, _/_, _%_, _^_, _≤_}
+use native.Mathlib.Nat.{pow-suc}
 use native.Mathlib.Omega.{arith}
 use mathlib.Core.Path.{_≡_, refl, ap, sym, _∙_}
-use mathlib.Core.Bool.{Bool, true, false, cond, not, _&&_, _||_}
+use mathlib.Core.Bool.{Bool, true, false, cond, not, _||_}
 use mathlib.Core.List.{List, [], _∷_}
-use lib.Dec.{eqb, leb, ltb}
+use lib.Dec.{eqb, ltb}
 use lib.Pow.{pow-pos}
 use borrow.Author.Tests.{le-leb}
 use lib.ListN.{length, take}
@@ -14,7 +14,6 @@ use Rattle.rules.specs.Word.{lowest, undefined}
 use Rattle.rules.specs.Table.{Row}
 use Rattle.rules.specs.Values.{refusal, Fault, undefinedFaults, valueFaults, faults}
 use Rattle.rules.specs.Decode.{Decoded, bad, firstFault}
-use Rattle.theory.proofs.Bools.{and-left, and-right}
 use Rattle.theory.proofs.Numbers.{AllProper}
 use Rattle.table.specs.declared.Group.{Group}
 use Rattle.table.specs.Ids.{groupId}

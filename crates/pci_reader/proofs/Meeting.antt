@@ -29,9 +29,11 @@ use Rattle.list.specs.declared.Walked.the-variants as walked
 use Rattle.list.specs.View.{origin, after, taken, stepAt, walkedOf, InsideAfter}
 use Rattle.list.proofs.Steps.{step-taken, inside-after, Walking, walking-start, walking-stop, walking-on, walking-end}
 use Rattle.pairs.specs.View.{addresses}
-use Rattle.places.specs.View.{placed, orElse, misplacedFrom}
+use Rattle.placed.specs.View.{placed}
+use Rattle.misplaced.specs.View.{orElse, misplacedFrom}
 use Rattle.pci_reader.specs.View.{Met, Stepped}
-use Rattle.places.proofs.Places.{placed-add, placed-again, none-behind, command-passes, command-in-place}
+use Rattle.placed.proofs.Placed.{placed-add, placed-again}
+use Rattle.misplaced.proofs.Misplaced.{none-behind, command-passes, command-in-place}
 
 or-right : (a b : Bool) → a ≡ false → (a || b) ≡ true → b ≡ true
 or-right true b e t = let z : _≡_ {A = Bool} true false = e in cc

@@ -11,7 +11,7 @@ use Rattle.list.specs.declared.Cursor.{Cursor}
 use Rattle.list.specs.declared.Step.{Step}
 use Rattle.list.specs.declared.Step.the-variants as step
 use Rattle.list.specs.View.{stepAt}
-use Rattle.places.specs.View.{misplacedFrom}
+use Rattle.misplaced.specs.View.{misplacedFrom}
 
 -- what decoding the command at a pair gives: a refusal of its words holds where all pairs are in place; of a command the
 -- pairs are

@@ -43,7 +43,7 @@ fn decode_group(pairs: &[u32], at: usize, id: u8, row: u8) -> Decoded
         return command::refused(5, at);
     }
     let g = pairs::group_at(pairs, at);
-    if !places::group_placed(pairs, at, id) | faults::undefined_bits(row, g) {
+    if !placed::group_placed(pairs, at, id) | faults::undefined_bits(row, g) {
         return command::refused_fault(
             at,
             faults::first_fault(row, id, g.header, g.second, g.third, g.fourth),
@@ -57,7 +57,7 @@ fn decode_group(pairs: &[u32], at: usize, id: u8, row: u8) -> Decoded
     }
     let more = command::payload(id, g);
     if 0 < more {
-        if !places::payload_placed(pairs, at + 4, more, id) {
+        if !placed::payload_placed(pairs, at + 4, more, id) {
             return command::refused(9, at);
         }
         return command::group_command(4 + more, row);
@@ -91,7 +91,7 @@ fn walk(rows: &[u8; 256], pairs: &[u32]) -> Walked
     while c.at < n {
         let s = step(rows, pairs, c);
         match s {
-            Step::Refused(f) => return Walked::Refused(places::refuse_pairs(pairs, c.at, f)),
+            Step::Refused(f) => return Walked::Refused(misplaced::refuse_pairs(pairs, c.at, f)),
             Step::On(next) => c = next,
         }
     }

@@ -8,10 +8,10 @@ use Rattle.rules.specs.Form.{read}
 use Rattle.rules.specs.Pci.{values}
 use Rattle.pairs.specs.View.{addresses}
 use Rattle.pairs.proofs.Pairs.{pair-count}
-use Rattle.places.specs.View.{placed}
-use Rattle.places.proofs.Places.{placed-one}
-use Rattle.places.proofs.leading.Statement.{statement}
-use Rattle.places.proofs.leading.Tie as tie
+use Rattle.placed.specs.View.{placed}
+use Rattle.placed.proofs.Placed.{placed-one}
+use Rattle.misplaced.proofs.leading.Statement.{statement}
+use Rattle.misplaced.proofs.leading.Tie as tie
 
 abbrev Inv-loop : tie.InvT-loop
 Inv-loop pairs at words id n i₀ i = (i ≤ words) × (at + i ≤ length (values pairs)) × (placed id 0 (read (addresses pairs) at i) ≡ true)

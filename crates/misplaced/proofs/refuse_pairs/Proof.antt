@@ -5,11 +5,11 @@ use Prim.Native.Nat.{_-_, _≤_, _<_}
 use lib.ListN.{length}
 use Rattle.rules.specs.declared.Refusal.{Refusal}
 use Rattle.rules.specs.Pci.{values}
-use Rattle.places.specs.View.{misplacedFrom, orElse}
+use Rattle.misplaced.specs.View.{misplacedFrom, orElse}
 use Rattle.pairs.proofs.Pairs.{pair-count}
-use Rattle.places.proofs.Places.{none-behind, leading-wrong, leading-cut, leading-all}
-use Rattle.places.proofs.refuse_pairs.Statement.{statement}
-use Rattle.places.proofs.refuse_pairs.Tie as tie
+use Rattle.misplaced.proofs.Misplaced.{none-behind, leading-wrong, leading-cut, leading-all}
+use Rattle.misplaced.proofs.refuse_pairs.Statement.{statement}
+use Rattle.misplaced.proofs.refuse_pairs.Tie as tie
 
 abbrev Inv-loop : tie.InvT-loop
 Inv-loop pairs start f n at₀ at = (at ≤ length (values pairs)) × (misplacedFrom start pairs ≡ misplacedFrom at pairs)

@@ -1,50 +1,11 @@
-// The place where each pair of a buffer is expected (document 02, Ticket 1).
-//
-// A pair is two words, address first. Pair `at` carries word `at` of a list.
+// Refusals 13 and 14: which of them, and where, only a refusal asks (document 02, Ticket 1).
 use rules::NO_BIT;
 use rules::Refusal;
 ghost use mathlib.Core.Path.{_≡_};
-ghost use mathlib.Core.Bool.{_&&_};
-ghost use Prim.Native.Nat.{_+_, _-_, _<_, _≤_};
-ghost use lib.Dec.{leb};
+ghost use Prim.Native.Nat.{_<_};
 ghost use lib.ListN.{length};
-ghost use Rattle.rules.specs.Form.{read};
 ghost use Rattle.rules.specs.Pci.{values, misplaced, outside};
-ghost use Rattle.pairs.specs.View.{addresses};
-ghost use Rattle.places.specs.View.{behind, placed, orElse, Sized, Leading};
-
-// ---- pairs in place
-
-// The four pairs of a group stand at its addresses.
-pub fn group_placed(pairs: &[u32], at: usize, id: u8) -> bool
-    requires { ⌜ at + 4 ≤ length (values (now pairs)) ⌝ }
-    ensures { λ r. ⌜ r ≡ placed id 0 (read (addresses (now (pairs .entry))) at 4) ⌝ }
-{
-    let a = pairs::address_at(pairs, at) == pairs::address(id, 0);
-    let b = pairs::address_at(pairs, at + 1) == pairs::address(id, 1);
-    let c = pairs::address_at(pairs, at + 2) == pairs::address(id, 2);
-    let d = pairs::address_at(pairs, at + 3) == pairs::address(id, 3);
-    (a & b) & (c & d)
-}
-
-// The payload of a load is there, at the load's own four addresses.
-pub fn payload_placed(pairs: &[u32], at: usize, words: usize, id: u8) -> bool
-    requires { ⌜ at ≤ length (values (now pairs)) ⌝ }
-    ensures { λ r. ⌜ r ≡ (leb words (length (values (now (pairs .entry))) - at) && placed id 0 (read (addresses (now (pairs .entry))) at words)) ⌝ }
-{
-    if pairs.len() / 2 - at < words {
-        return false;
-    }
-    let mut right = true;
-    let mut i: usize = 0;
-    while i < words {
-        right = right & (pairs::address_at(pairs, at + i) == pairs::address(id, i));
-        i += 1;
-    }
-    right
-}
-
-// ---- refusals 13 and 14: which of them, and where, only a refusal asks
+ghost use Rattle.misplaced.specs.View.{behind, orElse, Sized, Leading};
 
 // The words of the command at a pair; of a group that is cut its own words, which are too many already.
 fn size_at(pairs: &[u32], at: usize) -> usize

@@ -5,10 +5,10 @@ use borrow.Author.Tests.{not-true, not-false}
 use Rattle.rules.specs.Word.{idOf}
 use Rattle.command.proofs.Decoding.{payload-few}
 use Rattle.pairs.proofs.Pairs.{pair-count, id-small}
-use Rattle.places.proofs.Places.{sized-single, sized-cut, sized-group}
+use Rattle.misplaced.proofs.Misplaced.{sized-single, sized-cut, sized-group}
 use borrow.Author.Needs.{needs}
-use Rattle.places.proofs.size_at.Statement.{statement}
-use Rattle.places.proofs.size_at.Tie as tie
+use Rattle.misplaced.proofs.size_at.Statement.{statement}
+use Rattle.misplaced.proofs.size_at.Tie as tie
 
 returns : tie.Need-returns
 returns c = sized-single _ (c .before .before .before .before .before .args .at) _ (c .before .before .id-of .ensures ∙ ap idOf (c .before .before .before .value-at .ensures)) (id-small (c .before .before .before .before .before .args .pairs .now) (c .before .before .before .before .before .args .at) _ (c .before .before .before .before .before .pre) (c .before .before .before .before .shared-slice-known .given (2 * c .before .before .before .before .before .args .at + 1) .fits) (c .before .before .id-of .ensures ∙ ap idOf (c .before .before .before .value-at .ensures))) (sym (c .before .is-group .ensures) ∙ not-true _ (c .if1 .taken)) (c .before .before .before .before .before .pre)

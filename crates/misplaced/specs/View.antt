@@ -1,7 +1,7 @@
--- Where the pairs of a buffer are expected, as the code has it.
+-- The first pair out of place, as the code has it.
 use Prim.Native.Nat.{ℕ, zero, suc, _+_, _≤_, _<_}
 use mathlib.Core.Path.{_≡_}
-use mathlib.Core.Bool.{Bool, true, false, _&&_}
+use mathlib.Core.Bool.{true, false}
 use mathlib.Core.List.{List, [], _∷_}
 use mathlib.Core.Option.{Option, none, some}
 use lib.Dec.{eqb}
@@ -11,6 +11,7 @@ use Rattle.rules.specs.Form.{read}
 use Rattle.rules.specs.Pci.{address, values, misplaced, outside}
 use Rattle.command.specs.View.{sizeAt}
 use Rattle.pairs.specs.View.{addresses}
+use Rattle.placed.specs.View.{placed}
 
 -- the pairs from number n on
 abbrev pub behind : ℕ → List ℕ → List ℕ
@@ -18,11 +19,6 @@ behind zero ps = ps
 behind (suc n) [] = []
 behind (suc n) (a ∷ []) = []
 behind (suc n) (a ∷ v ∷ ps) = behind n ps
-
--- some addresses are those of a command's words from word k on
-abbrev pub placed : ℕ → ℕ → List ℕ → Bool
-placed id k [] = true
-placed id k (a ∷ xs) = eqb a (address id k) && placed id (suc k) xs
 
 abbrev pub orElse : Option Refusal → Refusal → Refusal
 orElse (some f) g = f

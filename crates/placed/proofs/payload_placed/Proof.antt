@@ -9,10 +9,10 @@ use Rattle.rules.specs.Form.{read}
 use Rattle.rules.specs.Pci.{values}
 use Rattle.pairs.specs.View.{addresses}
 use Rattle.pairs.proofs.Pairs.{pair-count}
-use Rattle.places.specs.View.{placed}
-use Rattle.places.proofs.Places.{placed-one}
-use Rattle.places.proofs.payload_placed.Statement.{statement}
-use Rattle.places.proofs.payload_placed.Tie as tie
+use Rattle.placed.specs.View.{placed}
+use Rattle.placed.proofs.Placed.{placed-one}
+use Rattle.placed.proofs.payload_placed.Statement.{statement}
+use Rattle.placed.proofs.payload_placed.Tie as tie
 
 abbrev Inv-loop : tie.InvT-loop
 Inv-loop pairs at words id right₀ i₀ right i = (i ≤ words) × (right ≡ placed id 0 (read (addresses pairs) at i))

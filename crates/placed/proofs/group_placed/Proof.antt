@@ -1,10 +1,10 @@
 use native.Mathlib.Omega.{arith}
 use Rattle.pairs.specs.View.{addresses}
 use Rattle.pairs.proofs.Pairs.{pair-count}
-use Rattle.places.proofs.Places.{placed-four}
+use Rattle.placed.proofs.Placed.{placed-four}
 use borrow.Author.Needs.{needs}
-use Rattle.places.proofs.group_placed.Statement.{statement}
-use Rattle.places.proofs.group_placed.Tie as tie
+use Rattle.placed.proofs.group_placed.Statement.{statement}
+use Rattle.placed.proofs.group_placed.Tie as tie
 
 add-address-at : tie.Need-add-address-at
 add-address-at c = omega (arith, c .before .before .before .pre, c .before .before .before .good, pair-count (c .before .before .before .args .pairs .now))
