@@ -127,7 +127,7 @@ pub fn decode_single(list: &[u32], at: usize, id: u8, row: u8) -> Decoded
     requires { ⌜ KnownAt (now list) at id row × (groupId id ≡ false) ⌝ }
     ensures { λ r. ⌜ r ≡ decodedAt (now (list .entry)) at ⌝ }
 {
-    let m = table::masks_of(row);
+    let m = masks::masks_of(row);
     let header = words::header_of(words::fetch(list, at));
     if faults::undefined(header, m.header) {
         return refused_fault(at, faults::first_fault(row, id, header, 0, 0, 0));

@@ -55,7 +55,7 @@ pub fn undefined_bits(row: u8, g: Group) -> bool
     requires { ⌜ row < 16 ⌝ }
     ensures { λ r. ⌜ r ≡ outside g (rowMasks row) ⌝ }
 {
-    let m = table::masks_of(row);
+    let m = masks::masks_of(row);
     let a = undefined(g.header, m.header);
     let b = undefined(g.second, m.second);
     let c = undefined(g.third, m.third);
@@ -150,7 +150,7 @@ pub fn first_fault(row: u8, id: u8, header: u32, second: u32, third: u32, fourth
     requires { ⌜ (row ≡ rowNumber id) × (row < 16) ⌝ }
     ensures { λ r. ⌜ r ≡ firstRefusal (faults (rowAt id) header (own (rowAt id) (record { header = header; second = second; third = third; fourth = fourth }))) ⌝ }
 {
-    let m = table::masks_of(row);
+    let m = masks::masks_of(row);
     let g = Group {
         header,
         second,

@@ -25,7 +25,7 @@ fn decode_single(pairs: &[u32], at: usize, id: u8, row: u8) -> Decoded
     requires { ⌜ KnownAt (values (now pairs)) at id row × (groupId id ≡ false) ⌝ }
     ensures { λ r. ⌜ Met (now (pairs .entry)) at r ⌝ }
 {
-    let m = table::masks_of(row);
+    let m = masks::masks_of(row);
     let header = words::header_of(pairs::value_at(pairs, at));
     let undefined = faults::undefined(header, m.header);
     if (pairs::address_at(pairs, at) != pairs::address(id, 0)) | undefined {

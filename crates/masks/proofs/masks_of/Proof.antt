@@ -1,10 +1,10 @@
 use Rattle.table.specs.Tables.{rowMasks}
 use native.Mathlib.Omega.{arith}
 use Prim.Native.Nat.{ℕ, suc, _≤_, zero-le}
 use mathlib.Core.Path.{_≡_}
 use borrow.Author.Needs.{needs}
-use Rattle.table.proofs.masks_of.Statement.{statement}
-use Rattle.table.proofs.masks_of.Tie as tie
+use Rattle.masks.proofs.masks_of.Statement.{statement}
+use Rattle.masks.proofs.masks_of.Tie as tie
 
 -- a number that is not the least is above it
 above : (k n : ℕ) → k ≤ n → (n ≡ k → ⊥) → suc k ≤ n
