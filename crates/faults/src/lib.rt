@@ -1,4 +1,4 @@
-// The rules on a command's own words: undefined bits, illegal values and clashes.
+// The first fault of a command: an undefined bit in one of its own words, else what the rules on values (crates/values) find.
 use rules::NO_BIT;
 use rules::Refusal;
 use table::Group;
