@@ -25,7 +25,7 @@ pub record Case : Type 0 where
   pub start : List ℕ
   pub want : Want
 
--- "Buffers are large enough."
+-- "Buffers are large enough", but for the case of 11.
 abbrev buffer : List ℕ
 buffer = replicate 16 0
 
@@ -40,17 +40,17 @@ answered f o = (eqb (o .answer .verdict) (f .number) && eqb (o .answer .position
 refuses : Refusal → List ℕ → Outcome → Bool
 refuses f image o = answered f o && (equal (o .image) image && equal (o .buffer) buffer)
 
--- the reader and the normaliser answer alike
-alike : Refusal → List ℕ → List ℕ → Bool
-alike f ws image = answered f (reading ws image buffer) && answered f (normalising ws image buffer)
+-- the reader and the normaliser give alike
+alike : (Outcome → Bool) → List ℕ → List ℕ → Bool
+alike p ws image = p (reading ws image buffer) && p (normalising ws image buffer)
 
 accepts : List ℕ → List ℕ → Bool
 accepts ws image =
-    alike (told 0 (length ws) 32) ws image && eqb (reading ws image buffer .answer .commands) (normalising ws image buffer .answer .commands)
+    alike (answered (told 0 (length ws) 32)) ws image && eqb (reading ws image buffer .answer .commands) (normalising ws image buffer .answer .commands)
 
 -- a form is accepted too, and leaves the same image; behind pairs an odd last word is ignored
 holds : List ℕ → List ℕ → Want → Bool
-holds ws image (refusedAs f) = refuses f image (reading ws image buffer) && refuses f image (normalising ws image buffer)
+holds ws image (refusedAs f) = alike (refuses f image) ws image
 holds ws image (commands k) = accepts ws image && eqb (normalising ws image buffer .answer .commands) k
 holds ws image (imageWord i w) = accepts ws image && eqb (getD (reading ws image buffer .image) i 0) w
 holds ws image (normalFormIs us) =
