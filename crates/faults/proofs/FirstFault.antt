@@ -14,7 +14,7 @@ use Rattle.rules.specs.Word.{lowest, undefined}
 use Rattle.rules.specs.Table.{Row}
 use Rattle.rules.specs.Values.{refusal, Fault, undefinedFaults, valueFaults, faults}
 use Rattle.rules.specs.Decode.{Decoded, bad, firstFault}
-use Rattle.theory.proofs.Numbers.{AllProper}
+use Rattle.theory.proofs.Numbers.{AllProper, not-zero}
 use Rattle.table.specs.declared.Group.{Group}
 use Rattle.table.specs.Ids.{groupId}
 use Rattle.table.specs.Tables.{rowNumber, rowAt, maskOf, rowMasks}
@@ -133,7 +133,7 @@ first-fault m [] d p = refl
 first-fault m (f ∷ fs) d p =
     (elim (f .found) as (λ t. f .found ≡ t → cond t (bad (f .why)) (firstFault fs d)
     ≡ cond (eqb ((cond t (f .why) (firstRefusal fs)) .number) 0) d (bad (cond t (f .why) (firstRefusal fs)))) [
-      | true ↦ λ e. ap (λ (b : Bool). cond b d (bad (f .why))) (sym (p .0 e .number))
+      | true ↦ λ e. ap (λ (b : Bool). cond b d (bad (f .why))) (sym (not-zero (p .0 e)))
       | false ↦ λ e. first-fault m fs d (p .1)
     ]) refl
 

@@ -1,11 +1,8 @@
 // The normal form of a list: the normaliser.
-//
-// A form is measured by writing it to an empty part of the buffer.
 use draft::Draft;
 use list::Walked;
 use rules::Answer;
 ghost use mathlib.Core.Path.{_≡_};
-ghost use lib.Dec.{ltb};
 ghost use lib.ListN.{length};
 ghost use lib.Seq.{sets};
 ghost use Rattle.rules.specs.Walk.{parse, accepted};
@@ -29,29 +26,33 @@ fn form(list: &[u32], image: &[u32], out: &mut [u32]) -> usize
     settings::emit_changed(d.changed, list, image, &latest, &mut sent, out, d.written)
 }
 
-// A form never has more words than its list; else it is measured.
-fn too_small(list: &[u32], image: &[u32], out: &mut [u32]) -> bool
-    requires { ⌜ parse (now image) (now list) ≡ accepted (commandsOf (parse (now image) (now list))) ⌝ }
-    ensures { λ r. ⌜ (r ≡ ltb (length (now (out .entry))) (length (normalForm (now (image .entry)) (now (list .entry))))) × (now (out .exit) ≡ now (out .entry)) ⌝ }
+// Where a form might not fit, it is measured first.
+fn normalise_measured(list: &[u32], image: &[u32], out: &mut [u32]) -> Answer
+    ensures { λ r. ⌜ record { answer = r; image = now (image .entry); buffer = now (out .exit) } ≡ normalising (now (list .entry)) (now (image .entry)) (now (out .entry)) ⌝ }
 {
-    if list.len() <= out.len() {
-        return false;
+    let a = measurer::measure(list, image);
+    if a.verdict != 0 {
+        return a;
     }
-    let n = form(list, image, &mut out[..0]);
-    out.len() < n
+    if out.len() < a.words {
+        return list::no_room(list.len());
+    }
+    form(list, image, out);
+    a
 }
 
-// The normaliser: from a list, a starting image and an output buffer to the normal form.
+// The normaliser: from a list, a starting image and an output buffer to the normal form, which never has more words than
+// its list.
 pub fn normalise(list: &[u32], image: &[u32], out: &mut [u32]) -> Answer
     ensures { λ r. ⌜ record { answer = r; image = now (image .entry); buffer = now (out .exit) } ≡ normalising (now (list .entry)) (now (image .entry)) (now (out .entry)) ⌝ }
 {
+    if out.len() < list.len() {
+        return normalise_measured(list, image, out);
+    }
     let w = list::check(list, image);
     match w {
         Walked::Refused(f) => list::refuse(f),
         Walked::Accepted(commands, records) => {
-            if too_small(list, image, out) {
-                return list::no_room(list.len());
-            }
             let words = form(list, image, out);
             list::accepted(list.len(), commands, records, words)
         }

@@ -1,7 +1,7 @@
 -- Every number of an answer is small, and what a call gives back.
 use Prim.Native.Nat.{ℕ, _*_, _≤_}
 use native.Mathlib.Omega.{arith}
-use mathlib.Core.Path.{_≡_, refl, ap}
+use mathlib.Core.Path.{_≡_, refl, ap, sym, _∙_, subst}
 use mathlib.Core.Bool.{Bool, true, false}
 use mathlib.Core.List.{List}
 use lib.Dec.{ltb}
@@ -13,8 +13,9 @@ use Rattle.rules.specs.Image.{final}
 use Rattle.rules.specs.Records.{records, recordWords}
 use Rattle.rules.specs.Form.{form}
 use Rattle.rules.specs.declared.Refusal.{Refusal}
+use Rattle.rules.specs.declared.Answer.{Answer}
 use Rattle.rules.specs.Values.{refusal}
-use Rattle.rules.specs.Answer.{Outcome, answerWords, refusedAnswer, accept, fitting, room, readParsed, writeParsed, reading, normalising}
+use Rattle.rules.specs.Answer.{Outcome, answerWords, refusedAnswer, accept, fitting, room, readParsed, writeParsed, reading, normalising, measuring}
 use Rattle.rules.specs.Pci.{pairsAll, values, parsePairs, toPci, fromPci}
 use Rattle.theory.proofs.Numbers.{RefusesList, parse-refuses}
 use Rattle.theory.proofs.Verdict.{length-recordWords}
@@ -22,8 +23,9 @@ use Rattle.theory.proofs.Parse.{parse-accepted}
 use Rattle.theory.proofs.Form.{form-fits}
 use Rattle.theory.proofs.Records.{records-few}
 use Rattle.theory.proofs.Pci.{pairs-length, pairs-carry, pairs-refuses}
+use Rattle.theory.proofs.Demands.{told-is-enough, told-never-longer}
 use Rattle.answer.specs.Small.{Small}
-use Rattle.host.specs.Call.{callResult}
+use Rattle.host.specs.Call.{callResult, answerResult}
 
 small-refused : (f : Refusal) → f .word ≤ 16384 → Small (refusedAnswer f)
 small-refused f h = record { position = h; commands = omega arith; records = omega arith; words = omega arith }
@@ -69,6 +71,10 @@ module _ (ws image buffer : List ℕ) where
       rw e (small-write pairsAll (parse image ws) (parse-refuses image ws)
       (λ cs p. (p, omega (arith, pairs-length cs, ap length (parse-accepted image ws cs p .parses .words-are)))))
 
+-- as the normaliser answers where the buffer has the list's length
+pub measure-small : (ws image : List ℕ) {a : Answer} → a ≡ measuring ws image → Small a
+measure-small ws image e = subst Small (told-is-enough ws image ws (told-never-longer ws image) ∙ sym e) (normalise-small ws image ws refl)
+
 pub from-pci-small : (ps image buffer : List ℕ) {o : Outcome} → o ≡ fromPci ps image buffer → Small (o .answer)
 unfolding fromPci
 from-pci-small ps image buffer e =
@@ -78,3 +84,7 @@ from-pci-small ps image buffer e =
 pub call-result : {o p : Outcome} {after : List ℕ} (answer : List ℕ) → o ≡ p → after ≡ sets answer 0 (answerWords (o .answer))
     → record { verdict = o .answer .verdict; image = o .image; buffer = o .buffer; answer = after } ≡ callResult p answer
 call-result answer e t = rw t (ap (λ (x : Outcome). callResult x answer) e)
+
+pub answer-result : {a b : Answer} {after : List ℕ} (answer : List ℕ) → a ≡ b → after ≡ sets answer 0 (answerWords a)
+    → record { verdict = a .verdict; answer = after } ≡ answerResult b answer
+answer-result answer e t = rw t (ap (λ (x : Answer). answerResult x answer) e)

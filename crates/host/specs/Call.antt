@@ -2,6 +2,7 @@
 use Prim.Native.Nat.{ℕ}
 use mathlib.Core.List.{List}
 use lib.Seq.{sets}
+use Rattle.rules.specs.declared.Answer.{Answer}
 use Rattle.rules.specs.Answer.{Outcome, answerWords}
 
 -- what a call returns, and the lent words after it
@@ -15,3 +16,11 @@ pub record CallResult : Type 0 where
 abbrev pub callResult : Outcome → List ℕ → CallResult
 callResult o answer =
     record { verdict = o .answer .verdict; image = o .image; buffer = o .buffer; answer = sets answer 0 (answerWords (o .answer)) }
+
+-- the same of a call that has nothing else to write
+pub record AnswerResult : Type 0 where
+  pub verdict : ℕ
+  pub answer : List ℕ
+
+abbrev pub answerResult : Answer → List ℕ → AnswerResult
+answerResult a answer = record { verdict = a .verdict; answer = sets answer 0 (answerWords a) }

@@ -1,8 +1,8 @@
 // The functions that C and Rust call (xp10.h).
 ghost use mathlib.Core.Path.{_≡_};
-ghost use Rattle.rules.specs.Answer.{reading, normalising};
+ghost use Rattle.rules.specs.Answer.{reading, normalising, measuring};
 ghost use Rattle.rules.specs.Pci.{toPci, fromPci};
-ghost use Rattle.host.specs.Call.{callResult};
+ghost use Rattle.host.specs.Call.{callResult, answerResult};
 
 // The reader.
 #[no_mangle]
@@ -30,6 +30,16 @@ pub extern "C" fn xp10_normalise(
     ensures { λ r. ⌜ record { verdict = r; image = now (image .entry); buffer = now (out .exit); answer = now (answer .exit) } ≡ callResult (normalising (now (list .entry)) (now (image .entry)) (now (out .entry))) (now (answer .entry)) ⌝ }
 {
     let a = form::normalise(list, image, out);
+    answer::write(a, answer);
+    a.verdict
+}
+
+// The room that the normal form takes.
+#[no_mangle]
+pub extern "C" fn xp10_measure(list: &[u32], image: &[u32], answer: &mut [u32]) -> u32
+    ensures { λ r. ⌜ record { verdict = r; answer = now (answer .exit) } ≡ answerResult (measuring (now (list .entry)) (now (image .entry))) (now (answer .entry)) ⌝ }
+{
+    let a = measurer::measure(list, image);
     answer::write(a, answer);
     a.verdict
 }

@@ -3,22 +3,13 @@ use Prim.Native.Nat.{ℕ, suc, _+_, _≤_, _<_}
 use native.Mathlib.Omega.{arith}
 use mathlib.Core.Path.{_≡_, refl, ap, sym, _∙_}
 use mathlib.Core.List.{List, [], _∷_, _++_, append-assoc}
-use lib.Pow.{high, low}
-use lib.ListN.{length, getD, drop, length-append, length-drop}
-use lib.Seq.{drop-cons, drop-drop, drop-at}
-use Rattle.rules.specs.Word.{idOf, headerOf, firstWord}
-use Rattle.rules.specs.Command.{Command, wordsAll, commandSize}
+use lib.ListN.{length, drop, length-drop}
+use Rattle.rules.specs.Command.{Command, wordsAll}
 use Rattle.rules.specs.Walk.{accepted, parse}
-use Rattle.rules.specs.Valid.{Valid, AllValid}
-use Rattle.rules.specs.Table.{rowOf}
-use Rattle.theory.proofs.Rows.{row-small}
-use Rattle.theory.proofs.Valid.{valid-size, valid-taken}
+use Rattle.rules.specs.Valid.{AllValid}
 use Rattle.theory.proofs.Parse.{parse-accepted}
-use Rattle.theory.proofs.Form.{wordsAll-append}
-use Rattle.table.specs.Tables.{rowAt}
-use Rattle.command.specs.View.{sizeAt}
-use Rattle.table.proofs.Tables.{row-is, known-row}
-use Rattle.command.specs.Effects.{idAt, commandAt, CommandAt}
+use Rattle.theory.proofs.Form.{words-on}
+use Rattle.command.proofs.Standing.{Stands, stands}
 
 -- the commands of a list before a position and from it on
 pub record Position (all : List Command) (l : List ℕ) (at : ℕ) : Type 0 where
@@ -39,16 +30,9 @@ pub record AtCommand (all : List Command) (l : List ℕ) (at : ℕ) (s : Positio
   pub command : Command
   pub later : List Command
   pub rest-is : s .rest ≡ command ∷ later
-  pub valid : Valid command
-  pub id-is : idOf (getD l at 0) ≡ command .row .id
-  pub row-at : rowAt (idOf (getD l at 0)) ≡ command .row
-  pub size-is : sizeAt l at ≡ suc (length (command .rest))
-  pub command-is : commandAt l at ≡ command
-  pub tail : drop (suc at) l ≡ command .rest ++ wordsAll later
-  pub inside : at + suc (length (command .rest)) ≤ length l
+  pub stands : Stands l at command (wordsAll later)
   pub after-all : all ≡ (s .done ++ command ∷ []) ++ later
   pub after-at : at + suc (length (command .rest)) ≡ length (wordsAll (s .done ++ command ∷ []))
-  pub after-left : drop (at + suc (length (command .rest))) l ≡ wordsAll later
   pub after-valid : AllValid later
 
 -- behind the command
@@ -60,7 +44,7 @@ after {all} {l} {at} s t next e =
       rest = t .later;
       all-is = t .after-all;
       at-is = e ∙ t .after-at;
-      left = ap (λ (k : ℕ). drop k l) e ∙ t .after-left;
+      left = ap (λ (k : ℕ). drop k l) e ∙ t .stands .behind;
       valid = t .after-valid;
     }
 
@@ -73,53 +57,17 @@ module _ (all : List Command) (l : List ℕ) (at : ℕ) (s : Position all l at) 
       by-rest (c ∷ cs) e = absurd (omega (arith, length-drop at l, ap length (s .left ∙ ap wordsAll e)))
 
   module _ (h : at < length l) where
-    by-command : (c : Command) (cs : List Command) → s .rest ≡ c ∷ cs → Valid c → AllValid cs → AtCommand all l at s
-    unfolding commandSize commandAt
-    by-command c cs e v vs =
-        let d : getD l at 0 ∷ drop (suc at) l ≡ firstWord (c .row .id) (c .header) ∷ (c .rest ++ wordsAll cs) =
-        sym (drop-cons l at 0 h) ∙ s .left ∙ ap wordsAll e in
-        let first : getD l at 0 ≡ firstWord (c .row .id) (c .header) = cc in
-        let tail′ : drop (suc at) l ≡ c .rest ++ wordsAll cs = cc in
-        let id′ : idOf (getD l at 0) ≡ c .row .id = ap idOf first ∙ high (c .row .id) 24 (v .small) in
-        let header′ : headerOf (getD l at 0) ≡ c .header = ap headerOf first ∙ low (c .row .id) 24 (v .small) in
-        let row′ : rowAt (idOf (getD l at 0)) ≡ c .row = ap rowAt id′ ∙ row-is (c .row .id) (c .row) (v .found) in
-        let n : ℕ = suc (length (c .rest)) in
-        let next : at + n ≡ suc at + length (c .rest) = omega arith in
-        let grown : wordsAll (s .done ++ c ∷ []) ≡ wordsAll (s .done) ++ wordsAll (c ∷ []) = wordsAll-append (s .done) (c ∷ []) in
-        record {
-          command = c;
-          later = cs;
-          rest-is = e;
-          valid = v;
-          id-is = id′;
-          row-at = row′;
-          size-is = rw (id′, v .found, header′, tail′) (ap suc (valid-size c (wordsAll cs) v));
-          command-is = rw (row′, header′, tail′) (valid-taken c (wordsAll cs) v);
-          tail = tail′;
-          inside = omega (arith, length-drop (suc at) l, ap length tail′, length-append (c .rest) (wordsAll cs));
-          after-all = s .all-is ∙ ap (λ (x : List Command). s .done ++ x) e ∙ sym (append-assoc (s .done) (c ∷ []) cs);
-          after-at = omega (arith, s .at-is, ap length grown, length-append (wordsAll (s .done)) (wordsAll (c ∷ [])), length-append (c .rest) []);
-          after-left = ap (λ (k : ℕ). drop k l) next ∙ sym (drop-drop (length (c .rest)) (suc at) l)
-              ∙ ap (drop (length (c .rest))) tail′ ∙ drop-at (c .rest) (wordsAll cs) (length (c .rest)) refl;
-          after-valid = vs;
-        }
-
     by-rest : (cs : List Command) → s .rest ≡ cs → AllValid cs → AtCommand all l at s
     by-rest [] e v = absurd (omega (arith, length-drop at l, ap length (s .left ∙ ap wordsAll e)))
-    by-rest (c ∷ cs) e v = by-command c cs e (v .0) (v .1)
+    by-rest (c ∷ cs) e v = record {
+      command = c;
+      later = cs;
+      rest-is = e;
+      stands = stands l at c (wordsAll cs) h (v .0) (s .left ∙ ap wordsAll e);
+      after-all = s .all-is ∙ ap (λ (x : List Command). s .done ++ x) e ∙ sym (append-assoc (s .done) (c ∷ []) cs);
+      after-at = words-on (s .done) c at (s .at-is);
+      after-valid = v .1;
+    }
 
     pub at-command : AtCommand all l at s
     at-command = by-rest (s .rest) refl (s .valid)
-
--- a command stands at the position
-pub command-at : (all : List Command) (l : List ℕ) (at : ℕ) (s : Position all l at) → length l ≤ 4096 → AtCommand all l at s → CommandAt l at
-command-at all l at s few t =
-    let c : Command = t .command in
-    let small′ : idAt l at < 256 = omega (arith, t .id-is, row-small (c .row .id) (c .row) (t .valid .found)) in
-    record {
-      few = few;
-      start = omega (arith, t .inside);
-      small = small′;
-      known = known-row (idAt l at) small′ (c .row) (ap rowOf (t .id-is) ∙ t .valid .found) .small;
-      inside = omega (arith, t .inside, t .size-is);
-    }

@@ -26,7 +26,8 @@ use Rattle.command.specs.View.{sizeAt}
 use Rattle.command.proofs.Decoding.{size-known, size-group, size-single}
 use Rattle.command.specs.Effects.{commandAt, CommandAt}
 use Rattle.command.proofs.Effects.{own-at}
-use Rattle.list.proofs.Position.{Position, position-start, position-end, AtCommand, after, at-command, command-at}
+use Rattle.command.proofs.Standing.{command-at}
+use Rattle.list.proofs.Position.{Position, position-start, position-end, AtCommand, after, at-command}
 
 -- ---- of some words
 
@@ -166,18 +167,18 @@ module _ (all : List Command) (l out₀ : List ℕ) (at : ℕ) (out : List ℕ) 
 
     -- there is a command, and room for it
     pub put-command : length l ≤ 4096 → 2 * length l ≤ length out₀ → CommandAt l at × (2 * at + 2 * sizeAt l at ≤ length out)
-    put-command few room = (command-at all l at (g .position) few t, omega (arith, t .inside, t .size-is, put-length))
+    put-command few room = (command-at few (t .stands), omega (arith, t .stands .inside, t .stands .size-is, put-length))
 
     -- with the command written, the position behind it
     pub put-on : (next : ℕ) (out′ : List ℕ) → (next ≡ at + sizeAt l at) × (out′ ≡ sets out (2 * at) (commandPairs (commandAt l at)))
         → (at < next) × Put all l out₀ next out′
     put-on next out′ p =
-        let e : next ≡ at + suc (length (t .command .rest)) = p .0 ∙ ap (λ (n : ℕ). at + n) (t .size-is) in
+        let e : next ≡ at + suc (length (t .command .rest)) = p .0 ∙ ap (λ (n : ℕ). at + n) (t .stands .size-is) in
         let n : 2 * at ≡ 0 + length (pairsAll done) = omega (arith, g .position .at-is, pairs-length done) in (
           omega arith,
           record {
             position = after (g .position) t next e;
-            out-is = p .1 ∙ ap₂ (λ (x : List ℕ) (c : Command). sets x (2 * at) (commandPairs c)) (g .out-is) (t .command-is)
+            out-is = p .1 ∙ ap₂ (λ (x : List ℕ) (c : Command). sets x (2 * at) (commandPairs c)) (g .out-is) (t .stands .command-is)
                 ∙ ap (λ (m : ℕ). sets (sets out₀ 0 (pairsAll done)) m (commandPairs (t .command))) n ∙ sym (sets-append out₀ 0 (pairsAll done) (commandPairs (t .command)))
                 ∙ ap (sets out₀ 0) (sym grown);
           },

@@ -17,7 +17,8 @@ use Rattle.command.specs.View.{sizeAt}
 use Rattle.reader.specs.declared.Place.{Place}
 use Rattle.command.specs.Effects.{commandAt, recordAt}
 use Rattle.reader.specs.Applied.{Applies, Applied}
-use Rattle.list.proofs.Position.{Position, position-start, position-end, AtCommand, after, at-command, command-at}
+use Rattle.command.proofs.Standing.{command-at}
+use Rattle.list.proofs.Position.{Position, position-start, position-end, AtCommand, after, at-command}
 
 -- the words of the records of some commands
 abbrev recorded : List Command → List ℕ
@@ -64,7 +65,7 @@ module _ (all : List Command) (l image₀ recs₀ : List ℕ) (few : length l �
     grown : recorded (g .position .done ++ t .command ∷ []) ≡ recorded (g .position .done) ++ recordAt l (p .at)
     grown =
         recorded-append done (t .command ∷ [])
-        ∙ ap₂ (λ (q : ℕ) (c : Command). recorded done ++ recordWords (records q (c ∷ []))) (sym (g .position .at-is)) (sym (t .command-is))
+        ∙ ap₂ (λ (q : ℕ) (c : Command). recorded done ++ recordWords (records q (c ∷ []))) (sym (g .position .at-is)) (sym (t .stands .command-is))
 
     written-grown : p .written + length (recordAt l (p .at)) ≡ length (recorded next)
     written-grown = omega (arith, g .written-is, ap length grown, length-append (recorded done) (recordAt l (p .at)))
@@ -81,7 +82,7 @@ module _ (all : List Command) (l image₀ recs₀ : List ℕ) (few : length l �
 
     pub applying-command : length image₀ ≡ 256 → length (recordWords (records 0 all)) ≤ length recs₀ → Applies l (p .at) (p .written) image recs
     applying-command long room′ = record {
-      command = command-at all l (p .at) (g .position) few t;
+      command = command-at few (t .stands);
       long = ap length (g .image-is) ∙ length-final image₀ done ∙ long;
       room = omega (arith, written-grown, within, ap length (g .recs-is), length-sets recs₀ 0 (recorded done));
     }
@@ -89,12 +90,12 @@ module _ (all : List Command) (l image₀ recs₀ : List ℕ) (few : length l �
     pub applying-on : (p′ : Place) (image′ recs′ : List ℕ) → Applied l (p .at) (p .written) image recs p′ image′ recs′
         → (p .at < p′ .at) × Applying all l image₀ recs₀ p′ image′ recs′
     applying-on p′ image′ recs′ a =
-        let at-is : p′ .at ≡ p .at + suc (length (t .command .rest)) = ap (λ (x : Place). x .at) (a .place) ∙ ap (λ (n : ℕ). p .at + n) (t .size-is) in (
+        let at-is : p′ .at ≡ p .at + suc (length (t .command .rest)) = ap (λ (x : Place). x .at) (a .place) ∙ ap (λ (n : ℕ). p .at + n) (t .stands .size-is) in (
           omega arith,
           record {
             position = after (g .position) t (p′ .at) at-is;
-            inside = omega (arith, t .inside);
-            image-is = a .image-is ∙ ap₂ apply (t .command-is) (g .image-is) ∙ sym (final-append image₀ done (t .command ∷ []));
+            inside = omega (arith, t .stands .inside);
+            image-is = a .image-is ∙ ap₂ apply (t .stands .command-is) (g .image-is) ∙ sym (final-append image₀ done (t .command ∷ []));
             written-is = ap (λ (x : Place). x .written) (a .place) ∙ written-grown;
             recs-is = a .buffer-is ∙ ap₂ (λ (x : List ℕ) (n : ℕ). sets x n (recordAt l (p .at))) (g .recs-is) (omega (arith, g .written-is))
                 ∙ sym (sets-append recs₀ 0 (recorded done) (recordAt l (p .at))) ∙ ap (sets recs₀ 0) (sym grown);

@@ -11,7 +11,7 @@ use Rattle.rules.specs.Walk.{refused, accepted, parse}
 use Rattle.rules.specs.Image.{final}
 use Rattle.rules.specs.Records.{Record, records, recordWords}
 use Rattle.rules.specs.Answer.{room, readParsed, reading}
-use Rattle.theory.proofs.Numbers.{Proper, parse-refuses}
+use Rattle.theory.proofs.Numbers.{Proper, not-zero, parse-refuses}
 use Rattle.theory.proofs.Records.{records-few}
 use Rattle.theory.proofs.Verdict.{reads, written-accept}
 use Rattle.theory.proofs.Parse.{parse-accepted}
@@ -39,7 +39,7 @@ module _ (input image buffer : List ℕ) (few : length input ≤ 16384) (even : 
   unfolding reading
   refused-text f e =
       let p : Proper 4098 f = rw e at (parse-refuses image (wordsOf input)) in
-      ap textOf (read-is ∙ ap (readParsed (wordsOf input) image buffer) e) ∙ listed-refused _ _ (eqb-false (f .number) 0 (p .number))
+      ap textOf (read-is ∙ ap (readParsed (wordsOf input) image buffer) e) ∙ listed-refused _ _ (eqb-false (f .number) 0 (not-zero p))
 
   pub accepted-text : (cs : List Command) → parse image (wordsOf input) ≡ accepted cs → 16384 ≤ length buffer
       → textOf (readBytes input image buffer) ≡ ascii "at id words head\n"

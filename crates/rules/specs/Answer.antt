@@ -1,4 +1,5 @@
--- The whole answers of the reader and the normaliser (document 01, "Verdicts and what stays").
+-- The whole answers of the reader, the normaliser and the measurer (document 01, "Verdicts and what stays"; document 02,
+-- Ticket 4).
 use Prim.Native.Nat.{ℕ, _/_}
 use mathlib.Core.Bool.{Bool, cond}
 use mathlib.Core.List.{List, [], _∷_, _++_}
@@ -44,11 +45,15 @@ tellsBit a = cond (eqb (a .verdict) 6) (ltb (a .bit) 32) (eqb (a .bit) 32)
 abbrev pub acceptedAnswer : ℕ → ℕ → ℕ → ℕ → Answer
 acceptedAnswer p c r w = record { verdict = 0; position = p; commands = c; records = r; words = w; bit = 32 }
 
--- 0 at "the list's length", with the words written. "On acceptance the words after those written are as before."
+-- 0 at "the list's length", with the counts of its commands and its records, and a number of words
+abbrev pub acceptedList : List ℕ → List Command → ℕ → Answer
+acceptedList ws cs words = acceptedAnswer (length ws) (length cs) (length (records 0 cs)) words
+
+-- the same, with the words written. "On acceptance the words after those written are as before."
 abbrev pub accept : List ℕ → List Command → List ℕ → List ℕ → List ℕ → Outcome
 accept ws cs written image buffer =
     record {
-      answer = acceptedAnswer (length ws) (length cs) (length (records 0 cs)) (length written);
+      answer = acceptedList ws cs (length written);
       image = image;
       buffer = written ++ drop (length written) buffer;
     }
@@ -81,6 +86,15 @@ reading ws image buffer = readParsed ws image buffer (parse image ws)
 -- The normaliser's commands and records are those of the list it was given."
 unfoldable pub normalising : List ℕ → List ℕ → List ℕ → Outcome
 normalising ws image buffer = writeParsed (λ cs. wordsAll (form image cs)) ws image buffer (parse image ws)
+
+abbrev pub measureParsed : List ℕ → List ℕ → Parsed → Answer
+measureParsed ws image (refused f) = refusedAnswer f
+measureParsed ws image (accepted cs) = acceptedList ws cs (length (wordsAll (form image cs)))
+
+-- "a question on a list and an image that answers verdict, position and the normal form's length (0 on refusal), with the
+-- normaliser's refusals except 11": without a buffer nothing is to fit
+unfoldable pub measuring : List ℕ → List ℕ → Answer
+measuring ws image = measureParsed ws image (parse image ws)
 
 -- the commands of an accepted list
 abbrev pub commandsOf : Parsed → List Command

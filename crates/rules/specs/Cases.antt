@@ -1,22 +1,23 @@
--- Cases P1 to P12 and N1 to N4 (document 01, "Cases on each side", as document 02, Tickets 2 and 3, changes them) and the
--- guide's own PCI writes, in one table.
+-- Cases P1 to P12 and N1 to N4 (document 01, "Cases on each side", as document 02, Tickets 2 and 3, changes them), lists
+-- measured, and the guide's own PCI writes, in one table.
 use Prim.Native.Nat.{ℕ, zero, suc}
-use mathlib.Core.Bool.{Bool, true, _&&_}
+use mathlib.Core.Bool.{Bool, true, _&&_, _||_}
 use mathlib.Core.List.{List, [], _∷_, _++_}
 use lib.Dec.{eqb}
 use lib.ListN.{length, getD, replicate, set}
 use Rattle.rules.specs.declared.Refusal.{Refusal}
 use Rattle.rules.specs.Form.{equal}
-use Rattle.rules.specs.Answer.{Outcome, reading, normalising, written}
+use Rattle.rules.specs.Answer.{answerWords, Outcome, reading, normalising, measuring, written}
 use Rattle.rules.specs.Pci.{toPci, fromPci}
 
 -- what a case says of its list: its refusal, accepted with so many commands, accepted with a word of the new image,
--- accepted with a normal form, accepted with its PCI writes; or of its pairs: their refusal
+-- accepted with a normal form, measured, accepted with its PCI writes; or of its pairs: their refusal
 pub data Want : Type 0 where
   refusedAs : Refusal → Want
   commands : ℕ → Want
   imageWord : ℕ → ℕ → Want
   normalFormIs : List ℕ → Want
+  measuredAs : List ℕ → Want
   writesAre : List ℕ → Want
   pairsRefusedAs : Refusal → Want
 
@@ -56,16 +57,22 @@ holds ws image (imageWord i w) = accepts ws image && eqb (getD (reading ws image
 holds ws image (normalFormIs us) =
     (accepts ws image && equal (written (normalising ws image buffer)) us)
     && (accepts us image && equal (reading us image buffer .image) (reading ws image buffer .image))
+holds ws image (measuredAs ns) = equal (answerWords (measuring ws image)) ns
 holds ws image (writesAre ps) =
     (answered (told 0 (length ws) 32) (toPci ws image buffer) && equal (written (toPci ws image buffer)) ps)
     && (answered (told 0 (length ws) 32) (fromPci ps image buffer) && (equal (written (fromPci ps image buffer)) ws
     && equal (written (fromPci (ps ++ (0x2800 ∷ [])) image buffer)) ws))
 holds ps image (pairsRefusedAs f) = refuses f image (fromPci ps image buffer)
 
+-- "it equals what the normaliser gives .. wherever that isn't 11"
+measuredAlike : List ℕ → List ℕ → Bool
+measuredAlike ws image =
+    eqb (normalising ws image buffer .answer .verdict) 11 || equal (answerWords (measuring ws image)) (answerWords (normalising ws image buffer .answer))
+
 unfoldable pub every : List Case → Bool
-unfolding holds accepts alike refuses answered
+unfolding holds accepts alike refuses answered measuredAlike
 every [] = true
-every (c ∷ cs) = holds (c .list) (c .start) (c .want) && every cs
+every (c ∷ cs) = (holds (c .list) (c .start) (c .want) && measuredAlike (c .list) (c .start)) && every cs
 
 abbrev zeros : List ℕ
 zeros = replicate 256 0
@@ -111,6 +118,10 @@ cases =
     ∷ fromZeros (0x02000010 ∷ 0x88000000 ∷ 0 ∷ 0x80C00000 ∷ 0xFF000000 ∷ []) (refusedAs (told 6 3 22))
     -- no room, for records or for a form
     ∷ fromZeros (0x02000010 ∷ nullPrimitives 5) (refusedAt 11 21)
+    -- the same list measured; one with settings behind its work; and a refused one, whose length is 0
+    ∷ fromZeros (0x02000010 ∷ nullPrimitives 5) (measuredAs (0 ∷ 21 ∷ 6 ∷ 5 ∷ 21 ∷ 32 ∷ []))
+    ∷ fromZeros (0x02000010 ∷ 0x02000020 ∷ 0x00000001 ∷ 0x02000030 ∷ 0x26000001 ∷ []) (measuredAs (0 ∷ 5 ∷ 5 ∷ 1 ∷ 4 ∷ 32 ∷ []))
+    ∷ fromZeros (0x00000001 ∷ 0x01000002 ∷ []) (measuredAs (6 ∷ 1 ∷ 0 ∷ 0 ∷ 0 ∷ 1 ∷ []))
     ∷ fromZeros n1 (normalFormIs (0x02000020 ∷ 0x00000001 ∷ []))
     ∷ fromZeros (0x02000010 ∷ 0x02000000 ∷ []) (normalFormIs [])
     ∷ fromZeros (0x31800001 ∷ 0x02000005 ∷ []) (normalFormIs (0x02000005 ∷ 0x31800001 ∷ []))

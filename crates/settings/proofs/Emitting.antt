@@ -14,7 +14,7 @@ use lib.Count.{trailingZeros}
 use lib.Dec.{eqb, ltb}
 use lib.ListN.{length, getD, set, length-append, length-set}
 use lib.Pow.{high, low, shr-shr}
-use lib.Seq.{sets, getD-set-same, getD-set-other}
+use lib.Seq.{sets, set-getD, getD-set-same, getD-set-other}
 use borrow.Author.Tests.{eqb-true, eqb-false, eq-eqb, ne-eqb, lt-ltb, le-ltb}
 use Rattle.rules.specs.Word.{idOf, headerOf, firstWord}
 use Rattle.rules.specs.Table.{Row, size, settings}
@@ -52,6 +52,11 @@ pub read-four : (l : List ℕ) (at w b c d : ℕ) → w ≡ getD l at 0 → b �
     → w ∷ b ∷ c ∷ d ∷ [] ≡ read l at 4
 read-four l at w b c d ew eb ec ed = rw (ew, eb, ec, ed, add-one, add-two, add-three)
 
+-- a buffer without words stays so
+sets-none : (n : ℕ) (ws : List ℕ) → sets {A = ℕ} [] n ws ≡ []
+sets-none n [] = refl
+sets-none n (w ∷ ws) = sets-none (suc n) ws
+
 module _ (more : ℕ) (l image latest : List ℕ) (k : ℕ) (o : Output) (w : ℕ) (rest : List ℕ) (e : w ∷ rest ≡ read l (getD latest k 0) (suc more)) where
   chosen-is : (b : Bool) → isBuilt more l image w rest (getD (o .sent) k 0) ≡ b → cond {A = Output} b o (putOne more l latest k o) ≡ emitOne more l image latest k o
   unfolding emitOne
@@ -68,6 +73,15 @@ module _ (more : ℕ) (l image latest : List ℕ) (k : ℕ) (o : Output) (w : �
   emit-put f out eo =
       ap {B = Output} (λ x. record { written = o .written + suc more; sent = set (o .sent) k (getD latest k 0 + 1); out = x }) (eo ∙ ap (sets (o .out) (o .written)) e)
       ∙ chosen-is false f
+
+  -- the same where it is counted and nothing is written
+  pub emit-counted : o .out ≡ [] → (same : Bool) → same ≡ isBuilt more l image w rest (getD (o .sent) k 0) → (n place : ℕ)
+      → n ≡ cond same (o .written) (o .written + suc more) → place ≡ cond same (getD (o .sent) k 0) (getD latest k 0 + 1)
+      → record { written = n; sent = set (o .sent) k place; out = [] } ≡ emitOne more l image latest k o
+  emit-counted eo true f n place en ep =
+      rw (en, ep, set-getD (o .sent) k 0) (ap (λ (x : List ℕ). record { written = o .written; sent = o .sent; out = x }) (sym eo) ∙ emit-kept (sym f))
+  emit-counted eo false f n place en ep =
+      rw (en, ep) (emit-put (sym f) [] (sym (ap (λ (x : List ℕ). sets x (o .written) (w ∷ rest)) eo ∙ sets-none (o .written) (w ∷ rest))))
 
 -- the loop over the numbers of a set
 pub record ToEmit (more first : ℕ) (l image latest : List ℕ) (left₀ : ℕ) (o₀ : Output) (left : ℕ) (o : Output) : Type 0 where

@@ -1,7 +1,7 @@
--- The demands, about the definitions that the contracts of `read`, `normalise`, `to_pci` and `from_pci` cite: `reading`,
--- `normalising`, `toPci` and `fromPci` give what the functions return and write. Lists, images, pairs and buffers are any
+-- The demands, about the definitions that the contracts of `read`, `normalise`, `measure`, `to_pci` and `from_pci` cite:
+-- `reading`, `normalising`, `measuring`, `toPci` and `fromPci` give what the functions return and write. Lists, images, pairs and buffers are any
 -- words whatever.
-use Prim.Native.Nat.{ℕ, _*_, _≤_}
+use Prim.Native.Nat.{ℕ, _*_, _≤_, _<_}
 use native.Mathlib.Omega.{arith}
 use mathlib.Core.Path.{_≡_, ap, sym, _∙_, subst}
 use mathlib.Core.Bool.{true}
@@ -15,7 +15,8 @@ use Rattle.rules.specs.Valid.{Accepted}
 use Rattle.rules.specs.Image.{final, Unset}
 use Rattle.rules.specs.Records.{records, recordWords, withoutPositions}
 use Rattle.rules.specs.Form.{form}
-use Rattle.rules.specs.Answer.{Outcome, refusalOf, tellsBit, refuse, accept, room, reading, normalising, commandsOf, does, normalForm, written}
+use Rattle.rules.specs.declared.Answer.{Answer}
+use Rattle.rules.specs.Answer.{Outcome, refusedAnswer, refusalOf, tellsBit, refuse, accept, room, reading, normalising, measuring, commandsOf, does, normalForm, written}
 use Rattle.rules.specs.Pci.{pairsAll, values, wholePairs, parsePairs, toPci, fromPci}
 use Rattle.theory.proofs.Parse.{parse-accepted, accepted-parse}
 use Rattle.theory.proofs.Records.{records-few}
@@ -178,6 +179,47 @@ module _ (image ws recs out : List ℕ) (a : BothAccept image ws recs out) where
     -- "The normaliser writes the same words again": the form "is its own normal form"
     pub form-again : written (normalising theForm image out′) ≡ theForm
     form-again = laws.back-again image ws out (a .by-normaliser) out′ long
+
+-- ---- the room told (document 02, Ticket 4)
+
+module _ (ws image buffer : List ℕ) where
+  -- "it equals what the normaliser gives and writes wherever that isn't 11"
+  pub measured-as-normalised : (normalising ws image buffer .answer .verdict ≡ 11 → ⊥)
+      → (normalising ws image buffer .answer ≡ measuring ws image) × (length (written (normalising ws image buffer)) ≡ measuring ws image .words)
+  measured-as-normalised = laws.measuring-is ws image buffer
+
+  -- and 11 it is exactly where the list is accepted with a form that is longer than the buffer
+  pub eleven-exactly : (normalising ws image buffer .answer .verdict ≡ 11) ↔ ((measuring ws image .verdict ≡ 0) × (length buffer < measuring ws image .words))
+  eleven-exactly = laws.eleven-is ws image buffer
+
+  -- so a buffer of the length told is enough
+  pub told-is-enough : measuring ws image .words ≤ length buffer → normalising ws image buffer .answer ≡ measuring ws image
+  told-is-enough h = measured-as-normalised (λ e. absurd (omega (arith, eleven-exactly .0 e .1))) .0
+
+  -- and a shorter one never is
+  pub less-is-eleven : measuring ws image .verdict ≡ 0 → length buffer < measuring ws image .words → normalising ws image buffer .answer .verdict ≡ 11
+  less-is-eleven z h = eleven-exactly .1 (z, h)
+
+module _ (ws image : List ℕ) where
+  -- "the form never has more words than its list"
+  pub told-never-longer : measuring ws image .words ≤ length ws
+  told-never-longer = laws.measuring-fits ws image
+
+  -- so it answers as the normaliser does where the buffer has the list's length
+  told : normalising ws image ws .answer ≡ measuring ws image
+  told = told-is-enough ws image ws told-never-longer
+
+  -- "(0 on refusal)"
+  pub measurer-refuses : (measuring ws image .verdict ≡ 0 → ⊥) → measuring ws image ≡ refusedAnswer (refusalOf (measuring ws image))
+  measurer-refuses n =
+      sym told ∙ ap (λ (o : Outcome). o .answer) (normaliser-refuses ws image ws (λ z. n (ap (λ (a : Answer). a .verdict) (sym told) ∙ z)))
+      ∙ ap (λ (a : Answer). refusedAnswer (refusalOf a)) told
+
+  pub measurer-tells-bit : tellsBit (measuring ws image) ≡ true
+  measurer-tells-bit = ap tellsBit (sym told) ∙ normaliser-tells-bit ws image ws
+
+  pub measurer-bit-is-set : measuring ws image .verdict ≡ 6 → bits (getD ws (measuring ws image .position) 0) (measuring ws image .bit) 1 ≡ 1
+  measurer-bit-is-set = subst (λ (a : Answer). a .verdict ≡ 6 → bits (getD ws (a .position) 0) (a .bit) 1 ≡ 1) told (normaliser-bit-is-set ws image ws)
 
 -- ---- PCI writes (document 02, Ticket 1)
 

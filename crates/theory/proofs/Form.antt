@@ -139,6 +139,11 @@ pub wordsAll-append : (a b : List Command) → wordsAll (a ++ b) ≡ wordsAll a 
 wordsAll-append [] b = refl
 wordsAll-append (c ∷ a) b = ap (λ (l : List ℕ). words c ++ l) (wordsAll-append a b) ∙ sym (append-assoc (words c) (wordsAll a) (wordsAll b))
 
+-- the words of one command more
+pub words-on : (cs : List Command) (c : Command) (at : ℕ) → at ≡ length (wordsAll cs) → at + suc (length (c .rest)) ≡ length (wordsAll (cs ++ c ∷ []))
+words-on cs c at e =
+    omega (arith, ap length (wordsAll-append cs (c ∷ [])), length-append (wordsAll cs) (wordsAll (c ∷ [])), length-append (c .rest) [])
+
 form-factors : (fi im : List ℕ) (cs : List Command) → Near fi im → AllValid cs → wordsAll (formFrom fi im cs) ≡ formOf fi (works im cs) (final im cs)
 unfolding formOf
 form-factors = by-cases (λ fi im cs. wordsAll (formFrom fi im cs) ≡ formOf fi (works im cs) (final im cs))
@@ -152,9 +157,9 @@ form-factors = by-cases (λ fi im cs. wordsAll (formFrom fi im cs) ≡ formOf fi
 
 -- ---- the form's commands are valid
 
-all-append : (a b : List Command) → AllValid a → AllValid b → AllValid (a ++ b)
-all-append [] b p q = q
-all-append (c ∷ a) b p q = (p .0, all-append a b (p .1) q)
+pub valid-append : (a b : List Command) → AllValid a → AllValid b → AllValid (a ++ b)
+valid-append [] b p q = q
+valid-append (c ∷ a) b p q = (p .0, valid-append a b (p .1) q)
 
 pub differs-valid : (r : Row) (fi im : List ℕ) → Setting r → Near fi im → same r fi im ≡ false → Valid (emit r im)
 differs-valid r fi im s n e =
@@ -179,7 +184,7 @@ form-valid = by-cases (λ fi im cs. AllValid (formFrom fi im cs))
     (λ fi im n. subst AllValid (sym (form-nil fi im)) (differing-valid settings fi im settings-all n))
     (λ fi im c cs n v s e vs n′ ih. subst AllValid (sym (form-setting fi im c cs e)) ih)
     (λ fi im c cs n v e vs ih. subst AllValid (sym (form-work fi im c cs e n))
-    (all-append (differing settings fi im) (c ∷ formFrom (apply c im) (apply c im) cs) (differing-valid settings fi im settings-all n) (v, ih)))
+    (valid-append (differing settings fi im) (c ∷ formFrom (apply c im) (apply c im) cs) (differing-valid settings fi im settings-all n) (v, ih)))
 
 -- ---- the form keeps the order rules
 
@@ -311,6 +316,10 @@ form-short = by-cases (λ fi im cs. length (wordsAll (formFrom fi im cs)) ≤ ou
 
 -- ---- demand 3
 
+-- the form never has more words than its commands
+pub form-within : (im : List ℕ) (cs : List Command) → length im ≡ 256 → AllValid cs → length (wordsAll (form im cs)) ≤ length (wordsAll cs)
+form-within im cs whole v = omega (arith, form-short im im cs (near-refl im whole) v, out-none im)
+
 module _ (im ws : List ℕ) (cs : List Command) (e : parse im ws ≡ accepted cs) where
   a : Accepted im ws cs
   a = parse-accepted im ws cs e
@@ -321,7 +330,7 @@ module _ (im ws : List ℕ) (cs : List Command) (e : parse im ws ≡ accepted cs
   -- the form never has more words than its list
   pub form-fits : length (wordsAll (form im cs)) ≤ length ws
   form-fits =
-      omega (arith, form-short im im cs n (a .parses .valid), out-none im, ap length (a .parses .words-are))
+      omega (arith, form-within im cs (a .whole) (a .parses .valid), ap length (a .parses .words-are))
 
   pub form-accepted : parse im (wordsAll (form im cs)) ≡ accepted (form im cs)
   form-accepted =

@@ -1,4 +1,4 @@
--- No refusal has number 0, none stands far behind its list, and 6 alone has a bit.
+-- No refusal of a list has number 0 or 11, none stands far behind its list, and 6 alone has a bit.
 use Prim.Native.Nat.{ℕ, zero, suc, _+_, _≤_}
 use native.Mathlib.Omega.{arith}
 use mathlib.Core.Path.{_≡_, refl}
@@ -16,13 +16,23 @@ use Rattle.rules.specs.Values.{refusal, Fault, undefinedFaults, valueFaults, lo
 use Rattle.rules.specs.Decode.{Decoded, bad, good, firstFault, decodeKnown, decodeRow, decode}
 use Rattle.rules.specs.Walk.{State, start, outOfOrder, next, Step, stop, took, inOrder, stepDecoded, step, Parsed, refused, accepted, andThen, onward, walk, sized, parse}
 use Rattle.rules.specs.Answer.{refusedAnswer, tellsBit}
-use Rattle.theory.proofs.Bools.{and-left, and-right}
+use Rattle.theory.proofs.Bools.{and-left, and-right, neither}
 
--- a refusal has a number that is not 0, its word is at most m, and its bit is by its number
+-- 0 is acceptance, and 11 is about a lent buffer
+abbrev pub notOfList : ℕ → Bool
+notOfList n = eqb n 0 || eqb n 11
+
+-- a refusal has a number of its own, its word is at most m, and its bit is by its number
 pub record Proper (m : ℕ) (f : Refusal) : Type 0 where
-  pub number : eqb (f .number) 0 ≡ false
+  pub number : notOfList (f .number) ≡ false
   pub near : f .word ≤ m
   pub bit : tellsBit (refusedAnswer f) ≡ true
+
+pub not-zero : {m : ℕ} {f : Refusal} → Proper m f → eqb (f .number) 0 ≡ false
+not-zero {m} {f} p = neither (eqb (f .number) 0) (eqb (f .number) 11) (p .number) .0
+
+pub not-eleven : {m : ℕ} {f : Refusal} → Proper m f → eqb (f .number) 11 ≡ false
+not-eleven {m} {f} p = neither (eqb (f .number) 0) (eqb (f .number) 11) (p .number) .1
 
 -- each fault's where it is found
 abbrev pub AllProper : ℕ → List Fault → Type 0
@@ -41,7 +51,7 @@ undefined-proper m i (x ∷ ms) (w ∷ ws) h = (λ e. record { number = refl; ne
 
 -- the faults of values are one test
 properTest : Refusal → Bool
-properTest f = not (eqb (f .number) 0) && (leb (f .word) 3 && tellsBit (refusedAnswer f))
+properTest f = not (notOfList (f .number)) && (leb (f .word) 3 && tellsBit (refusedAnswer f))
 
 test : List Fault → Bool
 unfolding properTest
@@ -53,9 +63,9 @@ unfolding test properTest
 test-proper m [] t h = tt
 test-proper m (f ∷ fs) t h =
     let p : properTest (f .why) ≡ true = and-left _ (test fs) t in
-    let q = and-right (not (eqb (f .why .number) 0)) _ p in
+    let q = and-right (not (notOfList (f .why .number))) _ p in
     let near′ = leb-true (f .why .word) 3 (and-left _ (tellsBit (refusedAnswer (f .why))) q) in (
-      λ e. record { number = not-true _ (and-left (not (eqb (f .why .number) 0)) _ p); near = omega arith; bit = and-right (leb (f .why .word) 3) _ q },
+      λ e. record { number = not-true _ (and-left (not (notOfList (f .why .number))) _ p); near = omega arith; bit = and-right (leb (f .why .word) 3) _ q },
       test-proper m fs (and-right (properTest (f .why)) _ t) h,
     )
 
@@ -100,7 +110,7 @@ row-refuses r h ws =
     let all : ℕ = restSize r h ws in
     let c : Command = record { row = r; header = h; rest = take all ws } in
     let whole : Decoded = cond (ltb (length ws) all) (bad (refusal 9 0)) (good c) in
-    let first : (n : ℕ) → eqb n 0 ≡ false → tellsBit (refusedAnswer (refusal n 0)) ≡ true → Proper m (refusal n 0) = λ n e t. record { number = e; near = omega arith; bit = t } in
+    let first : (n : ℕ) → notOfList n ≡ false → tellsBit (refusedAnswer (refusal n 0)) ≡ true → Proper m (refusal n 0) = λ n e t. record { number = e; near = omega arith; bit = t } in
     refuses-cond m (ltb (length ws) own) (bad (refusal 5 0)) (firstFault (faults r h (take own ws)) whole) (first 5 refl refl)
     (refuses-first m (3 + length (take own ws)) (faults r h (take own ws)) whole (faults-proper r h (take own ws)) (omega (arith, length-take own ws))
     (refuses-cond m (ltb (length ws) all) (bad (refusal 9 0)) (good c) (first 9 refl refl) tt))

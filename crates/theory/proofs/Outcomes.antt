@@ -1,12 +1,12 @@
 -- The demands' proofs: the laws of the form, carried to what the reader and the normaliser return and write.
-use Prim.Native.Nat.{ℕ, _≤_}
+use Prim.Native.Nat.{ℕ, _≤_, _<_}
 use native.Mathlib.Omega.{arith}
 use mathlib.Core.Path.{_≡_, refl, ap, sym, _∙_}
 use mathlib.Core.Bool.{Bool, true, false}
 use mathlib.Core.Logic.{_↔_}
 use mathlib.Core.List.{List, [], _∷_}
 use lib.Dec.{eqb, ltb}
-use borrow.Author.Tests.{eqb-false}
+use borrow.Author.Tests.{eqb-false, ltb-true, ltb-false}
 use lib.ListN.{length, getD}
 use lib.Seq.{getD-set-other}
 use Rattle.rules.specs.Word.{bits}
@@ -17,10 +17,10 @@ use Rattle.rules.specs.Image.{leave, apply, final, UnsetBy, Unset}
 use Rattle.rules.specs.Records.{records, recordWords, withoutPositions}
 use Rattle.rules.specs.Effect.{Effect, effect, works}
 use Rattle.rules.specs.Form.{form}
-use Rattle.rules.specs.Answer.{Outcome, refusalOf, tellsBit, refuse, accept, fitting, room, readParsed, writeParsed, reading, normalising, commandsOf, does, normalForm, written}
+use Rattle.rules.specs.Answer.{Outcome, refusalOf, tellsBit, refuse, accept, fitting, room, readParsed, writeParsed, measureParsed, reading, normalising, measuring, commandsOf, does, normalForm, written}
 use Rattle.rules.specs.Pci.{pairsAll, values, parsePairs, toPci, fromPci}
 use Rattle.rules.specs.Valid.{AllValid}
-use Rattle.theory.proofs.Numbers.{RefusesList, parse-refuses}
+use Rattle.theory.proofs.Numbers.{not-zero, not-eleven, RefusesList, parse-refuses}
 use Rattle.theory.proofs.Bits.{SetParsed, other, parse-set, pairs-set}
 use Rattle.theory.proofs.Pci.{pairs-refuses}
 use Rattle.theory.proofs.Parse.{parse-accepted}
@@ -211,6 +211,50 @@ equal-exactly image ws us out out′ z y =
       λ e. same-effect image ws us (commands image ws) (commands image us) p q (sym f ∙ e ∙ g),
       λ e. f ∙ same-form image ws us (commands image ws) (commands image us) p q e ∙ sym g,
     )
+
+-- ---- the form, measured
+
+module _ (ws image buffer : List ℕ) where
+  abbrev made : List Command → List ℕ
+  made cs = wordsAll (form image cs)
+
+  -- the normaliser's outcome is by the measurer's answer
+  abbrev Measured : Parsed → Outcome → Type 0
+  Measured x o =
+      ((o .answer .verdict ≡ 11 → ⊥) → (o .answer ≡ measureParsed ws image x) × (length (written o) ≡ measureParsed ws image x .words))
+      × ((o .answer .verdict ≡ 11) ↔ ((measureParsed ws image x .verdict ≡ 0) × (length buffer < measureParsed ws image x .words)))
+
+  measured : (x : Parsed) → RefusesList 4098 x → Measured x (writeParsed made ws image buffer x)
+  measured (refused f) r = (
+    λ n. (refl, refl),
+    (λ e. absurd (eqb-false (f .number) 11 (not-eleven r) e), λ m. absurd (eqb-false (f .number) 0 (not-zero r) (m .0))),
+  )
+  measured (accepted cs) r =
+      (elim (ltb (length buffer) (length (made cs))) as (λ t. ltb (length buffer) (length (made cs)) ≡ t
+      → Measured (accepted cs) (fitting t ws image buffer (accept ws cs (made cs) image buffer))) [
+        | true ↦ λ e. (λ n. absurd (n refl), (λ z. (refl, ltb-true (length buffer) (length (made cs)) e), λ m. refl))
+        | false ↦ λ e. (
+          λ n. (refl, ap length (written-accept ws cs (made cs) image buffer)),
+          (λ z. let f : _≡_ {A = ℕ} 0 11 = z in absurd (omega arith), λ m. absurd (omega (arith, ltb-false (length buffer) (length (made cs)) e, m .1))),
+        )
+      ]) refl
+
+  pub measuring-is : (normalising ws image buffer .answer .verdict ≡ 11 → ⊥)
+      → (normalising ws image buffer .answer ≡ measuring ws image) × (length (written (normalising ws image buffer)) ≡ measuring ws image .words)
+  unfolding normalising measuring
+  measuring-is = measured (parse image ws) (parse-refuses image ws) .0
+
+  pub eleven-is : (normalising ws image buffer .answer .verdict ≡ 11) ↔ ((measuring ws image .verdict ≡ 0) × (length buffer < measuring ws image .words))
+  unfolding normalising measuring
+  eleven-is = measured (parse image ws) (parse-refuses image ws) .1
+
+measured-fits : (ws image : List ℕ) (x : Parsed) → parse image ws ≡ x → measureParsed ws image x .words ≤ length ws
+measured-fits ws image (refused f) e = omega arith
+measured-fits ws image (accepted cs) e = form-fits image ws cs e
+
+pub measuring-fits : (ws image : List ℕ) → measuring ws image .words ≤ length ws
+unfolding measuring
+measuring-fits ws image = measured-fits ws image (parse image ws) refl
 
 -- ---- the form, read back
 

@@ -14,7 +14,7 @@ use Rattle.rules.specs.Image.{final}
 use Rattle.rules.specs.Records.{Record, records, recordWords}
 use Rattle.rules.specs.Form.{form}
 use Rattle.rules.specs.Answer.{Outcome, accept, fitting, room, readParsed, writeParsed, reading, normalising, commandsOf, written}
-use Rattle.theory.proofs.Numbers.{RefusesList, parse-refuses}
+use Rattle.theory.proofs.Numbers.{not-zero, RefusesList, parse-refuses}
 
 fitting-zero : (small : Bool) (ws image buffer : List ℕ) (done : Outcome) → fitting small ws image buffer done .answer .verdict ≡ 0 → small ≡ false
 fitting-zero true ws image buffer done e = let z : _≡_ {A = ℕ} 11 0 = e in absurd (omega arith)
@@ -54,7 +54,7 @@ module _ (made : List Command → List ℕ) (ws image buffer : List ℕ) (x : Pa
     where
       by-parsed : (y : Parsed) → x ≡ y → RefusesList 4098 y → writeParsed made ws image buffer y .answer .verdict ≡ 0
           → Writes made ws image buffer x (writeParsed made ws image buffer x) (commandsOf y)
-      by-parsed (refused f) e q t = absurd (eqb-false (f .number) 0 (q .number) t)
+      by-parsed (refused f) e q t = absurd (eqb-false (f .number) 0 (not-zero q) t)
       by-parsed (accepted cs) e q t =
           writes cs e (ltb-false (length buffer) (length (made cs)) (fitting-zero (ltb (length buffer) (length (made cs))) ws image buffer _ t))
 
@@ -75,7 +75,7 @@ module _ (image ws buffer : List ℕ) where
   normalises cs e h = writes (λ ds. wordsAll (form image ds)) ws image buffer (parse image ws) cs e h
 
   read-zero : (x : Parsed) → parse image ws ≡ x → RefusesList 4098 x → readParsed ws image buffer x .answer .verdict ≡ 0 → Reads image ws buffer (commandsOf x)
-  read-zero (refused f) e r z = absurd (eqb-false (f .number) 0 (r .number) z)
+  read-zero (refused f) e r z = absurd (eqb-false (f .number) 0 (not-zero r) z)
   read-zero (accepted cs) e r z =
       reads cs e (ltb-false (room buffer) (length (records 0 cs)) (fitting-zero (ltb (room buffer) (length (records 0 cs))) ws image buffer _ z))
 

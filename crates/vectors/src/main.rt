@@ -1,6 +1,6 @@
 // Runs the second program's cases (second/README.md, "The vectors file") through the reader, the normaliser, the writer
-// and the reader of pairs, and compares a digest of all that they give. A wrong digest, and so a damaged file, shows as
-// a difference.
+// and the reader of pairs, and the measurer, and compares a digest of all that they give. A wrong digest, and so a damaged
+// file, shows as a difference.
 use rules::Answer;
 ghost use Prim.Native.Nat.{_+_, _<_, _≤_};
 ghost use lib.ListN.{length};
@@ -17,7 +17,9 @@ const TO_PCI: usize = 2 * VERDICTS;
 
 const FROM_PCI: usize = 3 * VERDICTS;
 
-const CASES: usize = 4 * VERDICTS;
+const MEASURER: usize = 4 * VERDICTS;
+
+const CASES: usize = 5 * VERDICTS;
 
 const DIFFERENCES: usize = CASES + 1;
 
@@ -93,17 +95,18 @@ fn add(tally: &mut [u32; TALLY], i: usize) {
     }
 }
 
-// A function on a list, which the last of them takes as pairs.
+// A function on a list, which the reader of pairs takes as pairs.
 fn call(function: usize, list: &[u32], image: &mut [u32], buffer: &mut [u32]) -> Answer {
     match function {
         READER => reader::read(list, image, buffer),
         NORMALISER => form::normalise(list, image, buffer),
         TO_PCI => pci_writer::to_pci(list, image, buffer),
+        MEASURER => measurer::measure(list, image),
         _ => pci_reader::from_pci(list, image, buffer),
     }
 }
 
-// The digest of what it gives; of the reader, of the image too.
+// The digest of what it gives; of the reader, of the image too, and of the measurer, of its answer alone.
 fn digest_of(
     function: usize,
     list: &[u32],
@@ -112,7 +115,7 @@ fn digest_of(
     start: u32,
     tally: &mut [u32; TALLY],
 ) -> u32
-    requires { ⌜ function ≤ 60 ⌝ }
+    requires { ⌜ function ≤ 80 ⌝ }
 {
     let a = call(function, list, image, buffer);
     add(
@@ -120,6 +123,9 @@ fn digest_of(
         function + least(words::wide(a.verdict), VERDICTS - 1),
     );
     let digest = mix_answer(start, a);
+    if function == MEASURER {
+        return digest;
+    }
     if function == READER {
         return mix_words(mix_words(digest, image), buffer);
     }
@@ -138,7 +144,7 @@ fn run_function(
     start: u32,
     tally: &mut [u32; TALLY],
 ) -> u32
-    requires { ⌜ (function ≤ 60) × (room < 7) × (7 ≤ length (now front)) ⌝ }
+    requires { ⌜ (function ≤ 80) × (room < 7) × (7 ≤ length (now front)) ⌝ }
 {
     fill_image(image, front[1]);
     fill_buffer(buffer);
@@ -155,7 +161,7 @@ fn run_function(
 }
 
 // The digest of all functions on the case with these seven words in front of its list. Both directions of PCI writes have
-// the same room.
+// the same room, and the measurer has none.
 fn run_case(
     front: &[u32],
     list: &[u32],
@@ -167,7 +173,7 @@ fn run_case(
 {
     let mut digest = 0x811C9DC5;
     let mut k = 0;
-    while k < 4 {
+    while k < 5 {
         let room = least(3 + k, 5);
         digest = run_function(
             k * VERDICTS,
@@ -204,14 +210,15 @@ fn print_column(n: u32) {
 fn print(tally: &[u32; TALLY]) {
     print_line(b"vectors ", tally[CASES]);
     print_line(b"differences ", tally[DIFFERENCES]);
-    io::write_all(1, b"verdict reader normaliser to_pci from_pci\n");
+    io::write_all(1, b"verdict reader normaliser to_pci from_pci measure\n");
     let mut v = 0;
     while v < VERDICTS {
         io::print_decimal(1, v as u64);
         print_column(tally[v]);
         print_column(tally[NORMALISER + v]);
         print_column(tally[TO_PCI + v]);
-        print_line(b" ", tally[FROM_PCI + v]);
+        print_column(tally[FROM_PCI + v]);
+        print_line(b" ", tally[MEASURER + v]);
         v += 1;
     }
 }

@@ -1,28 +1,23 @@
 use mathlib.Core.Path.{sym, _∙_}
 use borrow.Author.Needs.{needs}
 use Rattle.list.proofs.Answers.{counts}
-use Rattle.form.proofs.Normalising.{normalise-refused, normalise-short, normalise-done}
+use Rattle.form.proofs.Normalising.{normalise-refused, normalise-done}
 use Rattle.form.proofs.normalise.Statement.{statement}
 use Rattle.form.proofs.normalise.Tie as tie
 
-returns : tie.Need-returns
-returns c =
-    rw (c .no-room .ensures, c .before .before .before .before .too-small .ensures .1)
-    (normalise-short _ _ _ _ _ (sym (c .before .before .before .before .before .before .before .before .before .check .ensures) ∙ c .before .before .before .before .before .before .before .w2 .given .1) (sym (c .before .before .before .before .too-small .ensures .0) ∙ c .before .if1 .taken))
+form-requires : tie.Need-form-requires
+form-requires c κs = counts _ _ _ (sym (c .before .before .before .before .check .ensures) ∙ c .before .before .w2 .given .1) .is
 
 returns-2 : tie.Need-returns-2
 returns-2 c = rw (c .refuse .ensures) (normalise-refused _ _ _ _ (sym (c .before .before .before .before .check .ensures) ∙ c .before .before .w .given .1))
 
 returns-3 : tie.Need-returns-3
 returns-3 c =
-    rw (c .accepted .ensures, c .before .before .before .form .ensures .0, c .before .before .before .form .ensures .1, c .before .before .before .before .before .before .before .before .too-small .ensures .1)
-    (normalise-done _ _ _ _ _ (sym (c .before .before .before .before .before .before .before .before .before .before .before .before .before .check .ensures) ∙ c .before .before .before .before .before .before .before .before .before .before .before .w2 .given .1) (sym (c .before .before .before .before .before .before .before .before .too-small .ensures .0) ∙ c .before .before .before .before .before .if1 .left))
+    rw (c .accepted .ensures, c .before .before .before .form .ensures .0, c .before .before .before .form .ensures .1)
+    (normalise-done _ _ _ _ _ (sym (c .before .before .before .before .before .before .before .before .check .ensures) ∙ c .before .before .before .before .before .before .w2 .given .1) (c .before .before .before .before .before .before .before .before .before .if1 .left))
 
 pub normalise-spec : {M : Type 1} → statement M
 normalise-spec =
     tie.close
-    (tie.spec (λ c κs. search needs) (λ c. search needs) (λ c κs. search needs) (λ c. search needs)
-    (λ c κs. counts _ _ _ (sym (c .before .before .before .before .check .ensures) ∙ c .before .before .w2 .given .1) .is) (λ c κs. search needs)
-    (λ c. search needs) returns
-    (λ c κs. counts _ _ _ (sym (c .before .before .before .before .before .before .before .before .before .check .ensures) ∙ c .before .before .before .before .before .before .before .w2 .given .1) .is)
-    (λ c κs. search needs) returns-2 (λ c. search needs) returns-3)
+    (tie.spec (λ c κs. search needs) (λ c. search needs) (λ c. search needs) (λ c κs. search needs) (λ c. search needs) (λ c κs. search needs)
+    (λ c. search needs) form-requires (λ c κs. search needs) returns-2 (λ c. search needs) returns-3)

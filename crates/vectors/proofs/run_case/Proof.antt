@@ -6,10 +6,10 @@ use Rattle.vectors.proofs.run_case.Statement.{statement}
 use Rattle.vectors.proofs.run_case.Tie as tie
 
 abbrev Inv-loop : tie.InvT-loop
-Inv-loop front list image₀ buffer₀ tally₀ digest₀ k₀ image buffer tally digest k = (k ≤ 4) × ((length image ≡ length image₀) × (length buffer ≡ length buffer₀))
+Inv-loop front list image₀ buffer₀ tally₀ digest₀ k₀ image buffer tally digest k = (k ≤ 5) × ((length image ≡ length image₀) × (length buffer ≡ length buffer₀))
 
 abbrev μ-loop : tie.MeasureT-loop
-μ-loop front list image₀ buffer₀ tally₀ digest₀ k₀ image buffer tally digest k = 4 - k
+μ-loop front list image₀ buffer₀ tally₀ digest₀ k₀ image buffer tally digest k = 5 - k
 
 pub run-case-spec : {M : Type 1} → statement M
 run-case-spec =

@@ -1,0 +1,23 @@
+use borrow.Author.Tests.{lt-ltb, le-ltb, eq-eqb, ne-eqb}
+use Rattle.rules.specs.Walk.{parse}
+use Rattle.rules.specs.Answer.{measuring}
+use borrow.Author.Needs.{needs}
+use Rattle.measurer.proofs.measure.Statement.{statement}
+use Rattle.measurer.proofs.measure.Tie as tie
+
+returns : tie.Need-returns
+unfolding measuring parse
+returns c = rw (lt-ltb _ _ (c .before .if1 .taken)) (c .refuse .ensures)
+
+returns-2 : tie.Need-returns-2
+unfolding measuring parse
+returns-2 c = rw (le-ltb _ _ (c .before .before .if1 .left), ne-eqb _ _ (c .before .if2 .taken)) (c .refuse2 .ensures)
+
+returns-3 : tie.Need-returns-3
+unfolding measuring parse
+returns-3 c = rw (le-ltb _ _ (c .before .before .before .before .if1 .left), eq-eqb _ _ (c .before .before .before .if2 .left)) (c .walk .ensures)
+
+pub measure-spec : {M : Type 1} → statement M
+measure-spec =
+    tie.close
+    (tie.spec (λ c κs. search needs) returns (λ c κs. search needs) returns-2 (λ c κs. search needs) (λ c κs. search needs) returns-3)

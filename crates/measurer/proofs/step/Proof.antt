@@ -1,0 +1,66 @@
+use native.Mathlib.Omega.{arith}
+use mathlib.Core.Path.{_≡_, sym, ap, _∙_}
+use mathlib.Core.Bool.{true, false}
+use Prim.Native.Nat.{ℕ, _<_}
+use lib.ListN.{getD}
+use Rattle.rules.specs.Word.{idOf}
+use Rattle.command.proofs.Decoding.{at-unknown, at-known, at-kind}
+use Rattle.command.specs.View.{refusedAt}
+use Rattle.list.proofs.Steps.{step-taken, inside-after}
+use borrow.Author.Needs.{needs}
+use Rattle.measurer.proofs.step.Statement.{statement}
+use Rattle.measurer.proofs.step.Tie as tie
+
+take-requires : tie.Need-take-requires
+take-requires c κs =
+    let a = c .before .before .before .before .before .before .before in
+    let at = a .args .c .at in
+    let l = a .args .list .now in
+    let ei : c .before .before .before .before .id-of .result ≡ idOf (getD l at 0) = c .before .before .before .before .id-of .ensures ∙ ap idOf (c .before .before .before .before .before .fetch .ensures) in
+    let small : c .before .before .before .before .id-of .result < 256 = omega (arith, ei, c .before .before .before .before .before .before .shared-slice-known .given at) in
+    let e = c .refused .ensures ∙ ap (λ (n : ℕ). refusedAt n at) (c .before .unknown .ensures) ∙ sym (at-unknown (a .args .rows .now) l at _ (a .pre .2) (a .pre .1) ei small (c .before .before .if1 .taken)) in
+    (a .pre .0, inside-after l (a .args .c) _ e (omega (arith, a .good)) (a .pre .1))
+
+returns : tie.Need-returns
+returns c =
+    let a = c .before .before .before .before .before .before .before .before in
+    let at = a .args .c .at in
+    let l = a .args .list .now in
+    let ei : c .before .before .before .before .before .id-of .result ≡ idOf (getD l at 0) = c .before .before .before .before .before .id-of .ensures ∙ ap idOf (c .before .before .before .before .before .before .fetch .ensures) in
+    let small : c .before .before .before .before .before .id-of .result < 256 = omega (arith, ei, c .before .before .before .before .before .before .before .shared-slice-known .given at) in
+    let e = c .before .refused .ensures ∙ ap (λ (n : ℕ). refusedAt n at) (c .before .before .unknown .ensures) ∙ sym (at-unknown (a .args .rows .now) l at _ (a .pre .2) (a .pre .1) ei small (c .before .before .before .if1 .taken)) in
+    λ image. c .take .ensures ∙ step-taken l (a .args .c) _ e image
+
+decode-group-requires : tie.Need-decode-group-requires
+decode-group-requires c κs =
+    let a = c .before .before .before .before .before .before in
+    let at = a .args .c .at in
+    let l = a .args .list .now in
+    let ei : c .before .before .before .id-of .result ≡ idOf (getD l at 0) = c .before .before .before .id-of .ensures ∙ ap idOf (c .before .before .before .before .fetch .ensures) in
+    let small : c .before .before .before .id-of .result < 256 = omega (arith, ei, c .before .before .before .before .before .shared-slice-known .given at) in
+    (at-known (a .args .rows .now) l at _ (a .pre .2) (a .pre .1) ei small (c .before .if1 .left), at-kind (a .args .rows .now) l at _ (a .pre .2) (a .pre .1) ei small (c .before .if1 .left) true (c .if2 .taken))
+
+take-requires-2 : tie.Need-take-requires-2
+take-requires-2 c κs = (c .before .before .before .before .before .before .before .pre .0, inside-after _ (c .before .before .before .before .before .before .before .args .c) _ (c .decode-group .ensures) (omega (arith, c .before .before .before .before .before .before .before .good)) (c .before .before .before .before .before .before .before .pre .1))
+
+returns-2 : tie.Need-returns-2
+returns-2 c = λ image. c .take2 .ensures ∙ step-taken _ (c .before .before .before .before .before .before .before .before .args .c) _ (c .before .decode-group .ensures) image
+
+decode-single-requires : tie.Need-decode-single-requires
+decode-single-requires c κs =
+    let a = c .before .before .before .before .before .before in
+    let at = a .args .c .at in
+    let l = a .args .list .now in
+    let ei : c .before .before .before .id-of .result ≡ idOf (getD l at 0) = c .before .before .before .id-of .ensures ∙ ap idOf (c .before .before .before .before .fetch .ensures) in
+    let small : c .before .before .before .id-of .result < 256 = omega (arith, ei, c .before .before .before .before .before .shared-slice-known .given at) in
+    (at-known (a .args .rows .now) l at _ (a .pre .2) (a .pre .1) ei small (c .before .if1 .left), at-kind (a .args .rows .now) l at _ (a .pre .2) (a .pre .1) ei small (c .before .if1 .left) false (c .if2 .left))
+
+take-requires-3 : tie.Need-take-requires-3
+take-requires-3 c κs = (c .before .before .before .before .before .before .before .pre .0, inside-after _ (c .before .before .before .before .before .before .before .args .c) _ (c .decode-single .ensures) (omega (arith, c .before .before .before .before .before .before .before .good)) (c .before .before .before .before .before .before .before .pre .1))
+
+returns-3 : tie.Need-returns-3
+returns-3 c = λ image. c .take3 .ensures ∙ step-taken _ (c .before .before .before .before .before .before .before .before .args .c) _ (c .before .decode-single .ensures) image
+
+pub step-spec : {M : Type 1} → statement M
+step-spec = tie.close
+    (tie.spec (λ c κs. search needs) (λ c κs. search needs) (λ c. search needs) (λ c. search needs) (λ c κs. search needs) (λ c κs. search needs) take-requires returns decode-group-requires take-requires-2 returns-2 decode-single-requires take-requires-3 returns-3)
