@@ -57,8 +57,10 @@ pub fn show(index: usize, seed: u64) {
     for function in Function::ALL {
         let outcome = outcome::of(function, rules::paper(), &case);
         println!("{}: {:?}", function.name(), outcome.answer);
-        let written = outcome.answer[4] as usize;
-        println!("  written {}", hex(&outcome.buffer[..written], usize::MAX));
+        if function.writes() {
+            let written = outcome.answer[4] as usize;
+            println!("  written {}", hex(&outcome.buffer[..written], usize::MAX));
+        }
         if outcome.image != case.image.words() {
             println!("  image   {}", hex(&outcome.image, usize::MAX));
         }
@@ -96,6 +98,7 @@ pub use with_proved::compare;
 #[cfg(feature = "proved")]
 mod with_proved {
     use super::*;
+    use crate::agreement;
     use crate::outcome::{prefilled, Outcome};
     use crate::proved::{self, Call};
     use crate::rules::ANSWER_WORDS;
@@ -142,6 +145,13 @@ mod with_proved {
             let call = proved::call(function, case, answer_len);
             differences(function.name(), case, &expected, &call, &mut found);
         }
+        let disagreement = agreement::disagreement(case, |function, case| {
+            let expected = outcome::of(function, rules::paper(), case);
+            let call = proved::call(function, case, ANSWER_WORDS);
+            differences(function.name(), case, &expected, &call, &mut found);
+            call.outcome()
+        });
+        found.extend(disagreement);
         found
     }
 

@@ -1,6 +1,7 @@
-//! A second implementation of document 01, with Tickets 1 to 3 of document 02, to compare with the
+//! A second implementation of document 01, with Tickets 1 to 4 of document 02, to compare with the
 //! proved one.
 
+mod agreement;
 mod compare;
 mod listings;
 mod lists;

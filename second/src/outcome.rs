@@ -9,14 +9,25 @@ pub enum Function {
     Normaliser,
     ToPci,
     FromPci,
+    Measure,
 }
 
 impl Function {
-    pub const ALL: [Function; 4] =
-        [Function::Reader, Function::Normaliser, Function::ToPci, Function::FromPci];
+    pub const ALL: [Function; 5] = [
+        Function::Reader,
+        Function::Normaliser,
+        Function::ToPci,
+        Function::FromPci,
+        Function::Measure,
+    ];
 
     pub fn name(self) -> &'static str {
-        ["reader", "normaliser", "to_pci", "from_pci"][self as usize]
+        ["reader", "normaliser", "to_pci", "from_pci", "measure"][self as usize]
+    }
+
+    /// It is lent a buffer, for the words that its answer counts.
+    pub fn writes(self) -> bool {
+        self != Function::Measure
     }
 
     /// The words of the buffer that it is lent.
@@ -25,6 +36,7 @@ impl Function {
             Function::Reader => case.records_len,
             Function::Normaliser => case.out_len,
             Function::ToPci | Function::FromPci => case.pci_len,
+            Function::Measure => 0,
         }
     }
 
@@ -40,6 +52,7 @@ impl Function {
     pub fn verdicts(self) -> Vec<u32> {
         let own: &[u32] = match self {
             Function::FromPci => &[0, 1, 2, 3, 4, 6, 7, 10, 11, 13, 14],
+            Function::Measure => &[0, 1, 2, 3, 4, 5, 6, 7, 9, 10],
             _ => &[0, 1, 2, 3, 4, 5, 6, 7, 9, 10, 11],
         };
         [own, &[15, 16, 17, 18, 19]].concat()
@@ -67,6 +80,7 @@ pub fn of(function: Function, rules: &Rules, case: &Case) -> Outcome {
         Function::Normaliser => rules.normalise(&case.list, &image, &mut buffer),
         Function::ToPci => rules.to_pci(&case.list, &image, &mut buffer),
         Function::FromPci => rules.from_pci(&case.list, &image, &mut buffer),
+        Function::Measure => rules.measure(&case.list, &image),
     };
     Outcome { answer: answer.numbers(), image, buffer }
 }

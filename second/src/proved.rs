@@ -1,7 +1,8 @@
 //! The proved library's functions, called with words around each lent slice that must stay.
 
 use crate::lists::Case;
-use crate::outcome::{prefilled, Function};
+use crate::outcome::{prefilled, Function, Outcome};
+use crate::rules::ANSWER_WORDS;
 
 extern "C" {
     fn xp10_read(
@@ -47,6 +48,15 @@ extern "C" {
         answer: *mut u32,
         answer_len: usize,
     ) -> u32;
+
+    fn xp10_measure(
+        list: *const u32,
+        list_len: usize,
+        image: *const u32,
+        image_len: usize,
+        answer: *mut u32,
+        answer_len: usize,
+    ) -> u32;
 }
 
 /// What a call returned and left in the lent words.
@@ -58,6 +68,14 @@ pub struct Call {
     pub answer: Vec<u32>,
     /// No word next to a lent slice has changed.
     pub kept_inside: bool,
+}
+
+impl Call {
+    /// Of a call with room for the whole answer.
+    pub fn outcome(self) -> Outcome {
+        let answer: [u32; ANSWER_WORDS] = self.answer.try_into().expect("a whole answer");
+        Outcome { answer, image: self.image, buffer: self.buffer }
+    }
 }
 
 const GUARD_WORDS: usize = 8;
@@ -134,6 +152,7 @@ pub fn call(function: Function, case: &Case, answer_len: usize) -> Call {
         Function::Normaliser => call_reading(xp10_normalise, &mut lent),
         Function::ToPci => call_reading(xp10_to_pci, &mut lent),
         Function::FromPci => call_reading(xp10_from_pci, &mut lent),
+        Function::Measure => measure(&mut lent),
     };
     lent.call(returned)
 }
@@ -172,6 +191,23 @@ fn call_reading(function: Reading, lent: &mut LentWords) -> u32 {
             image.len(),
             buffer.as_mut_ptr(),
             buffer.len(),
+            answer.as_mut_ptr(),
+            answer.len(),
+        )
+    }
+}
+
+fn measure(lent: &mut LentWords) -> u32 {
+    let list = lent.list.words();
+    let image = lent.image.words();
+    let answer = lent.answer.words();
+    // SAFETY: as for `read`.
+    unsafe {
+        xp10_measure(
+            list.as_ptr(),
+            list.len(),
+            image.as_ptr(),
+            image.len(),
             answer.as_mut_ptr(),
             answer.len(),
         )

@@ -1,5 +1,6 @@
 //! Reading, normalising and listing by document 01, with PCI writes by Ticket 1 of document 02, the
-//! bit and the clashes told by Ticket 2, and the page thresholds by Ticket 3.
+//! bit and the clashes told by Ticket 2, the page thresholds by Ticket 3, and the form's length told
+//! by Ticket 4.
 //!
 //! What the documents fix stands in `document` as a value of `Rules`; here is what they say to do
 //! with it. Nothing may panic for a `Rules` with one part changed, so that `mutants` can run it.
@@ -8,6 +9,7 @@ mod document;
 mod form;
 mod language;
 mod listing;
+mod measure;
 mod pci;
 mod shape;
 

@@ -1,14 +1,16 @@
-//! Checks of the rules: the paper's cases, and on random lists demand 3 and the bit told.
+//! Checks of the rules: the paper's cases, and on random lists demand 3, the bit told and the form's
+//! length told.
 
+use crate::agreement;
 use crate::listings::bytes;
-use crate::lists::{self, Purpose};
+use crate::lists::{self, Case, Purpose};
 use crate::outcome::{self, prefilled, Function};
 use crate::paper::{self, Expected, PaperCase};
 use crate::prng::Prng;
 use crate::rules::{self, Answer, Refusal, IMAGE_WORDS, NO_BIT, RECORD_WORDS};
 
 /// Each panics when it fails.
-pub const CHECKS: [(&str, fn()); 10] = [
+pub const CHECKS: [(&str, fn()); 11] = [
     ("cases of document 01", paper_cases),
     ("the guide's writes", guide_writes),
     ("page thresholds", page_thresholds),
@@ -16,6 +18,7 @@ pub const CHECKS: [(&str, fn()); 10] = [
     ("lent words", lent_words),
     ("the bit told", told_bit),
     ("room", room),
+    ("room told", room_told),
     ("demand 3", demand_3),
     ("equal doings, equal forms", equal_doings),
     ("pairs and back", pairs_and_back),
@@ -33,6 +36,7 @@ fn paper_case(case: &PaperCase) {
     let mut image = vec![0; IMAGE_WORDS];
     image[0x02] = case.timer;
     let (form_answer, form) = normal_form(case.list, &image);
+    assert_eq!(rules::paper().measure(case.list, &image), form_answer, "{}", case.name);
     let (answer, _) = records(case.list, &mut image);
     assert_eq!(form_answer.verdict, answer.verdict, "{}", case.name);
     assert_eq!(form_answer.position, answer.position, "{}", case.name);
@@ -90,7 +94,8 @@ fn lent_words() {
             let outcome = outcome::of(function, rules::paper(), &case);
             let [verdict, position, commands, records, words, _] = outcome.answer;
             let before = prefilled(outcome.buffer.len());
-            assert_eq!(outcome.buffer[words as usize..], before[words as usize..]);
+            let written = if function.writes() { words as usize } else { 0 };
+            assert_eq!(outcome.buffer[written..], before[written..]);
             if verdict == 0 {
                 let pair_words = if function == Function::FromPci { 2 } else { 1 };
                 assert_eq!(position as usize, case.list.len() / pair_words);
@@ -165,6 +170,20 @@ fn room() {
         }
         pci_room(&case.list, &image, too_small);
     }
+}
+
+/// On every fixed case and on random ones; the buffer is too small in many of them.
+fn room_told() {
+    let fixed = lists::fixed_cases();
+    let mut too_small = 0;
+    for index in 0..fixed.len() + RANDOM_LISTS as usize {
+        let case = lists::case(&fixed, index, 18);
+        let run = |function, case: &Case| outcome::of(function, rules::paper(), case);
+        assert_eq!(agreement::disagreement(&case, run), None, "case {index}");
+        let told = run(Function::Measure, &case).answer[4] as usize;
+        too_small += (told > case.out_len) as usize;
+    }
+    assert!(too_small > 1000, "{too_small} buffers too small");
 }
 
 fn pci_room(list: &[u32], image: &[u32], too_small: Answer) {
@@ -361,6 +380,11 @@ mod tests {
     #[test]
     fn room() {
         super::room();
+    }
+
+    #[test]
+    fn room_told() {
+        super::room_told();
     }
 
     #[test]

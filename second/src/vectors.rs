@@ -144,6 +144,25 @@ mod tests {
         }
     }
 
+    /// Forms that are empty, short and as long as their list, with room on both sides of their length.
+    #[test]
+    fn form_lengths_are_there() {
+        let lengths = |case: Case| {
+            let [verdict, list, .., form, _] =
+                outcome::of(Function::Measure, rules::paper(), &case).answer;
+            (verdict == 0).then_some((list as usize, form as usize, case.out_len))
+        };
+        let all: Vec<_> = stored_cases().into_iter().filter_map(lengths).collect();
+        for of_both in [(0, 0), (1, 0), (1, 1), (2, 0), (9, 9), (4096, 1), (4096, 4096)] {
+            assert!(all.iter().any(|&(list, form, _)| (list, form) == of_both), "{of_both:?}");
+        }
+        for form in 1..=6 {
+            for room in [0, form - 1, form, form + 1] {
+                assert!(all.iter().any(|&(_, of, out)| (of, out) == (form, room)), "{form} {room}");
+            }
+        }
+    }
+
     #[test]
     fn every_verdict_is_there() {
         let cases = stored_cases();

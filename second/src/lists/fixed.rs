@@ -108,7 +108,8 @@ pub fn fixed_cases() -> Vec<Case> {
 /// Cases with surroundings of their own, all in the vectors file.
 fn stored_whole() -> Vec<Case> {
     let lists = [equal_settings(), defined_part(), image_lengths(), buffer_lengths()];
-    [lists.concat(), pairs::image_lengths(), pairs::buffer_lengths()].concat()
+    let pairs = [pairs::image_lengths(), pairs::buffer_lengths()];
+    [lists.concat(), pairs.concat(), form_lengths()].concat()
 }
 
 /// A sample of the sets that fits a small file. Sets that are stored whole get a zero image and
@@ -766,6 +767,56 @@ fn buffer_lengths() -> Vec<Case> {
         }
     }
     cases
+}
+
+/// Lists with forms of other lengths, with exactly that room, one word less, one more, and none.
+fn form_lengths() -> Vec<Case> {
+    // In the second image word 02 is 20 hex.
+    let seed = prng::seed_with_word(0x02, 0x20);
+    let mut cases = Vec::new();
+    for image in [Image::ZERO, Image::Seeded { seed, len: IMAGE_WORDS }] {
+        for list in short_and_whole_forms() {
+            let case = plain("form lengths", list, Purpose::Store);
+            let case = Case { image: image.clone(), ..case };
+            let form = rules::paper().measure(&case.list, &case.image.words()).words as usize;
+            let mut rooms = vec![0, form.saturating_sub(1), form, form + 1];
+            rooms.dedup();
+            cases.extend(rooms.into_iter().map(|out_len| Case { out_len, ..case.clone() }));
+        }
+    }
+    // A setting equal to image words that are not quite its own.
+    let image = Image::Seeded { seed: 1, len: IMAGE_WORDS };
+    let list = [&[0xC4000000], &image.words()[0xC4..0xC7]].concat();
+    cases.push(Case { image, ..plain("form lengths", list, Purpose::Store) });
+    // The longest list, with a form of one word.
+    let longest = plain("form lengths", timers(MAX_LIST_WORDS), Purpose::Store);
+    cases.push(Case { out_len: 1, ..longest });
+    cases
+}
+
+/// Settings that are changed back, hidden, or all in the form; before work, behind it, or both.
+fn short_and_whole_forms() -> Vec<Vec<u32>> {
+    let group = &[0x8C000001, 1, 2, 3][..];
+    let (on, back, other) = (TIMER | 0x10, TIMER | 0x20, TIMER | 0x11);
+    vec![
+        vec![],
+        vec![FLUSH],
+        vec![on],
+        vec![back],
+        vec![on, back],
+        vec![on, TIMER],
+        vec![on, FLUSH, back],
+        vec![on, FLUSH, TIMER],
+        vec![on, other, FLUSH, other],
+        vec![FLUSH, on, other],
+        group.to_vec(),
+        [&[on], group].concat(),
+        [group, &[FLUSH], group, &[on]].concat(),
+        [&[FLUSH], group, &[0x8C000000, 0, 0, 0]].concat(),
+        [&[on], paper::GUIDE_PUT, &[back]].concat(),
+        [group, &[0x21000000, 0x10100007, 0, 0, 0, on]].concat(),
+        [group, &[FLUSH, 0x01000002]].concat(),
+    ]
 }
 
 /// Lists whose settings are what the starting image has, which is one that can be stored.

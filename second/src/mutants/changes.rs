@@ -92,6 +92,7 @@ fn changed_alone(changed: &Rules) -> Option<Function> {
         (Function::Normaliser, Rules { form: other().form, ..paper() }),
         (Function::ToPci, Rules { to_pci: other().to_pci, ..paper() }),
         (Function::FromPci, Rules { from_pci: other().from_pci, ..paper() }),
+        (Function::Measure, Rules { measure: other().measure, ..paper() }),
     ];
     of_one.into_iter().find(|(_, rules)| rules == changed).map(|(function, _)| function)
 }

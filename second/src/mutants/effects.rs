@@ -2,6 +2,7 @@
 
 mod bits;
 mod by_id;
+mod measure;
 mod pci;
 
 use super::changes::Mutant;
@@ -24,7 +25,9 @@ pub fn all() -> Vec<Mutant> {
             let at = Place { function, verdict, name };
             all.extend(numbers(&at));
             all.extend(bits::of_verdict(&at));
-            all.extend(lent_words(&at));
+            if function.writes() {
+                all.extend(lent_words(&at));
+            }
             match verdict {
                 0 => all.extend(accepted(&at)),
                 1 | 2 => {}
@@ -34,6 +37,7 @@ pub fn all() -> Vec<Mutant> {
     }
     all.extend(bits::all());
     all.extend(pci::all());
+    all.extend(measure::all());
     all.extend(image_words());
     all.extend(by_id::all());
     all.push(applied_from_the_end());
@@ -114,19 +118,26 @@ fn accepted(at: &Place) -> Vec<Mutant> {
         let what = format!("no {}", NUMBERS[to]);
         all.push(at.change(&what, move |_, outcome| outcome.answer[to] = 0));
     }
-    all.push(at.change("words: those of the buffer", |_, outcome| {
-        outcome.answer[WORDS] = outcome.buffer.len() as u32;
-    }));
-    if at.function == Function::Normaliser {
-        all.push(at.change("commands: those of the form", |_, outcome| {
-            let form = &outcome.buffer[..outcome.answer[WORDS] as usize];
-            outcome.answer[COMMANDS] = rules::paper().walk(form).0.len() as u32;
+    if at.function.writes() {
+        all.push(at.change("words: those of the buffer", |_, outcome| {
+            outcome.answer[WORDS] = outcome.buffer.len() as u32;
+        }));
+    }
+    if matches!(at.function, Function::Normaliser | Function::Measure) {
+        all.push(at.change("commands: those of the form", |case, outcome| {
+            outcome.answer[COMMANDS] = rules::paper().walk(&form_of(case)).0.len() as u32;
         }));
         all.push(at.change("words: four for each record", |_, outcome| {
             outcome.answer[WORDS] = 4 * outcome.answer[RECORDS];
         }));
     }
     all
+}
+
+/// The form of a list, or of its commands before the refused one.
+fn form_of(case: &Case) -> Vec<u32> {
+    let commands = rules::paper().walk(&case.list).0;
+    rules::paper().normal_form(&commands, &case.image.words())
 }
 
 /// What the commands before the refused one do, done in spite of it.
@@ -157,8 +168,7 @@ fn done_before_refusal(at: &Place) -> Vec<Mutant> {
         }
         Function::Normaliser => {
             all.push(at.change("form before it written", |case, outcome| {
-                let form = paper.normal_form(&paper.walk(&case.list).0, &case.image.words());
-                put(&mut outcome.buffer, &form);
+                put(&mut outcome.buffer, &form_of(case));
             }));
         }
         Function::ToPci => {
@@ -170,6 +180,11 @@ fn done_before_refusal(at: &Place) -> Vec<Mutant> {
             all.push(at.change("list before it written", move |case, outcome| {
                 let list = function.list_before(case, outcome);
                 put(&mut outcome.buffer, &list[..outcome.answer[POSITION] as usize]);
+            }));
+        }
+        Function::Measure => {
+            all.push(at.change("form before it measured", |case, outcome| {
+                outcome.answer[WORDS] = form_of(case).len() as u32;
             }));
         }
     }

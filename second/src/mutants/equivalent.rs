@@ -234,7 +234,31 @@ const REASONS: &[Reason] = &[
     (
         "at each work command the form brings its settings to the list's, so that both images \
          agree there",
-        &["form: *: compared with: LastWork"],
+        &["*form: *: compared with: LastWork"],
+    ),
+    (
+        "a form has as many words whatever the order of its settings and the values of the last ones",
+        &[
+            "measure: form: *: order: *",
+            "measure: form: after last work: values: *",
+            "measure: table: 02: behind 26",
+            "measure: table: 26: behind 30",
+            "measure: table: 30: behind 31",
+            "measure: table: 31: behind 84",
+            "measure: table: 84: behind 88",
+            "measure: table: 88: behind 8C",
+            "measure: table: 8C: behind 90",
+            "measure: table: 90: behind C4",
+        ],
+    ),
+    (
+        "only a BEGIN or the list's end follows a surface base: the settings before it are as many \
+         behind it",
+        &[
+            "measure: table: 21: settings first: false",
+            "measure: table: 23: settings first: false",
+            "measure: table: 25: settings first: false",
+        ],
     ),
     (
         "the list of the pairs is what is written: as many words as it has",
@@ -254,8 +278,11 @@ const REASONS: &[Reason] = &[
     ),
 ];
 
+/// A reason for a change of the rules is one for the same change in the measure alone.
 pub fn reason(name: &str) -> Option<&'static str> {
-    let given = |(_, names): &&Reason| names.iter().any(|pattern| matches(pattern, name));
+    let everywhere = name.strip_prefix("measure: ").unwrap_or(name);
+    let is_of = |pattern: &&str| matches(pattern, name) || matches(pattern, everywhere);
+    let given = |(_, names): &&Reason| names.iter().any(is_of);
     REASONS.iter().find(given).map(|(reason, _)| *reason)
 }
 

@@ -57,6 +57,7 @@ fn moved_behind_commands() -> Vec<Mutant> {
         let name = format!("order: verdict {} behind the commands", check.verdict);
         rules.room_for_records.insert(0, check.clone());
         rules.room_for_form.insert(0, check.clone());
+        rules.measure.room.insert(0, check.clone());
         rules.to_pci.room.insert(0, check);
         Mutant::of_rules(name, rules)
     };
@@ -151,6 +152,7 @@ fn no_room_as_met(function: Function, case: &Case, outcome: Outcome) -> Outcome 
         }
         Function::ToPci => paper.pairs_of(&commands).len() <= case.pci_len,
         Function::FromPci => end_of(&commands) <= case.pci_len,
+        Function::Measure => true,
     };
     match fits {
         true => outcome,

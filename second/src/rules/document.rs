@@ -1,4 +1,4 @@
-//! Document 01, and Tickets 1 to 3 of document 02, as a value: each part under its sentence.
+//! Document 01, and Tickets 1 to 4 of document 02, as a value: each part under its sentence.
 
 use super::language::{Field, Mask, Quantity, Set, Test, Value};
 use super::shape::*;
@@ -20,8 +20,8 @@ const DEPTH: &[u32] = &[0xFFFFFF, 0x00FFFFFF, 0x0FFF0FFF, 0x0FFF0FFF];
 const LOD_BIAS: &[u32] = &[0x000000, 0xFFFFFFFF, 0xFFFFFFFF, 0xFFFFFFFF];
 
 parts! {
-    /// Fields that the papers name, the image word of every BEGIN, the addresses over PCI. Several
-    /// rules use some.
+    /// Fields that the papers name, the image word of every BEGIN, the form, the addresses over PCI.
+    /// Several rules use some.
     pub struct Terms {
         pub id: Field,
         pub header: Field,
@@ -35,6 +35,7 @@ parts! {
         pub page_based: Field,
         pub full_page: Field,
         pub begin_word: usize,
+        pub form: Form,
         pub addresses: Addresses,
     }
 }
@@ -61,6 +62,7 @@ impl Terms {
             full_page: Field::bit(0, 14),
             // "Any BEGIN puts its header in word 08."
             begin_word: 0x08,
+            form: form(),
             addresses: addresses(),
         }
     }
@@ -89,7 +91,8 @@ impl Rules {
             base_may_end_list: true,
             base_lasts: BaseLasts::OneCommand,
             records: records(terms),
-            form: form(),
+            form: terms.form.clone(),
+            measure: measure(terms),
             listing: listing(),
             to_pci: to_pci(terms),
             from_pci: from_pci(terms),
@@ -317,6 +320,18 @@ fn form() -> Form {
         before_work: differing.clone(),
         work: WorkWords::WithPayload,
         after_last_work: differing,
+    }
+}
+
+/// "a question on a list and an image that answers verdict, position and the normal form's length (0
+/// on refusal), with the normaliser's refusals except 11"
+fn measure(terms: &Terms) -> Measure {
+    Measure {
+        form: terms.form.clone(),
+        from: MeasuredFrom::Given,
+        told: Told::FormWords,
+        refused: RefusedTold::Zero,
+        room: Vec::new(),
     }
 }
 

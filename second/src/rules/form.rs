@@ -2,11 +2,12 @@
 
 use super::document::IMAGE_WORDS;
 use super::{
-    Command, ComparedWith, Kind, Row, Rules, SettingOrder, SettingValues, Settings, WorkWords,
+    Command, ComparedWith, Form, Kind, Row, Rules, SettingOrder, SettingValues, Settings, WorkWords,
 };
 
 /// The form so far, and the images of which it has to know.
 struct Building<'a> {
+    rules: &'a Form,
     form: Vec<u32>,
     start: Vec<u32>,
     /// The list's image now, the image that the form has built, the list's image at its last work.
@@ -19,9 +20,14 @@ struct Building<'a> {
 
 impl Rules {
     pub fn normal_form(&self, commands: &[Command], start: &[u32]) -> Vec<u32> {
+        self.form_by(&self.form, commands, start)
+    }
+
+    pub fn form_by(&self, rules: &Form, commands: &[Command], start: &[u32]) -> Vec<u32> {
         let mut start = start.to_vec();
         start.resize(IMAGE_WORDS, 0);
         let mut building = Building {
+            rules,
             form: Vec::new(),
             list: start.clone(),
             built: start.clone(),
@@ -36,15 +42,16 @@ impl Rules {
             }
             self.apply(command, &mut building.list);
         }
-        self.add_settings(&mut building, &self.form.after_last_work);
+        self.add_settings(&mut building, &rules.after_last_work);
         building.form
     }
 
     fn add_work(&self, building: &mut Building, command: &Command) {
+        let rules = building.rules;
         if command.row.settings_first {
-            self.add_settings(building, &self.form.before_work);
+            self.add_settings(building, &rules.before_work);
         }
-        let words = match self.form.work {
+        let words = match rules.work {
             WorkWords::WithPayload => command.words,
             WorkWords::OwnWords => &command.words[..command.row.own_words()],
             WorkWords::FirstWord => &command.words[..1],
@@ -52,8 +59,8 @@ impl Rules {
         };
         building.form.extend_from_slice(words);
         self.apply(command, &mut building.built);
-        if self.form.before_work.compared_with == ComparedWith::LastWork
-            || self.form.after_last_work.compared_with == ComparedWith::LastWork
+        if rules.before_work.compared_with == ComparedWith::LastWork
+            || rules.after_last_work.compared_with == ComparedWith::LastWork
         {
             building.last_work.copy_from_slice(&building.list);
             self.apply(command, &mut building.last_work);

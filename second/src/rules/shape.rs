@@ -5,7 +5,8 @@ use super::language::{Facts, Field, Mask, Set, Test};
 use crate::vary::{choices, parts};
 
 parts! {
-    /// The rules of reading, of the normal form, of the listing and of the writes over PCI.
+    /// The rules of reading, of the normal form and its length, of the listing and of the writes over
+    /// PCI.
     pub struct Rules {
         pub id: Field,
         /// The header as the masks test it, and as the image holds it.
@@ -24,6 +25,7 @@ parts! {
         pub base_lasts: BaseLasts,
         pub records: Records,
         pub form: Form,
+        pub measure: Measure,
         pub listing: Listing,
         pub to_pci: ToPci,
         pub from_pci: FromPci,
@@ -266,6 +268,35 @@ choices! {
 
 choices! {
     pub enum WorkWords { WithPayload, OwnWords, FirstWord, NoWords }
+}
+
+parts! {
+    /// The question for the form's length.
+    pub struct Measure {
+        pub form: Form,
+        pub from: MeasuredFrom,
+        pub told: Told,
+        pub refused: RefusedTold,
+        /// Refusals behind those of the list.
+        pub room: Vec<Check>,
+    }
+}
+
+choices! {
+    /// The image that the form starts from: the one given, zeros, the one that the list leaves.
+    pub enum MeasuredFrom { Given, Zeros, Left }
+}
+
+choices! {
+    /// What is told as the form's length.
+    pub enum Told {
+        FormWords, FormBytes, FormCommands, ListWords, ListCommands, WordsSaved, MostWords
+    }
+}
+
+choices! {
+    /// What is told of a refused list; its form before the refused command is one.
+    pub enum RefusedTold { Zero, FormBefore, ListWords }
 }
 
 parts! {
