@@ -33,12 +33,35 @@ macro_rules! function {
     };
 }
 
+macro_rules! measure {
+    ($symbol:expr) => {
+        pub fn measure(list: &[u32], image: &[u32], answer: &mut [u32]) -> u32 {
+            extern "C" {
+                #[link_name = $symbol]
+                fn measure(
+                    list: *const u32,
+                    list_words: usize,
+                    image: *const u32,
+                    image_words: usize,
+                    answer: *mut u32,
+                    answer_words: usize,
+                ) -> u32;
+            }
+            // SAFETY: as above.
+            unsafe {
+                measure(list.as_ptr(), list.len(), image.as_ptr(), image.len(), answer.as_mut_ptr(), answer.len())
+            }
+        }
+    };
+}
+
 /// A build whose symbols start so.
 macro_rules! library {
     ($build:ident, $prefix:literal) => {
         pub mod $build {
             function!(read, concat!($prefix, "read"), &mut [u32], *mut u32, as_mut_ptr);
             function!(normalise, concat!($prefix, "normalise"), &[u32], *const u32, as_ptr);
+            measure!(concat!($prefix, "measure"));
             function!(to_pci, concat!($prefix, "to_pci"), &[u32], *const u32, as_ptr);
             function!(from_pci, concat!($prefix, "from_pci"), &[u32], *const u32, as_ptr);
         }

@@ -16,8 +16,11 @@ use std::time::{Duration, Instant};
 
 type Read = fn(&[u32], &mut [u32], &mut [u32], &mut [u32]) -> u32;
 type Write = fn(&[u32], &[u32], &mut [u32], &mut [u32]) -> u32;
+type Measure = fn(&[u32], &[u32], &mut [u32]) -> u32;
 
 const COUNT: usize = if cfg!(before) { 3 } else { 2 };
+/// An earlier build may have no `measure`.
+const MEASURES: usize = if cfg!(before_measures) { 3 } else { 2 };
 
 /// The implementations of a function, in one order everywhere: the proved library, Rust, and the library before where
 /// it is linked.
@@ -34,6 +37,12 @@ macro_rules! implementations {
 
 const READ: [Read; COUNT] = implementations!(read, rust::read);
 const NORMALISE: [Write; COUNT] = implementations!(normalise, rust::normalise);
+const MEASURE: [Measure; MEASURES] = [
+    proved::measure,
+    rust::measure,
+    #[cfg(before_measures)]
+    before::measure,
+];
 const TO_PCI: [Write; COUNT] = implementations!(to_pci, pci::to_pci);
 const FROM_PCI: [Write; COUNT] = implementations!(from_pci, pci::from_pci);
 
@@ -67,6 +76,12 @@ fn compare(count: usize, list: &[u32], image: &[u32], room: usize, numbers: usiz
         (verdict, answer, vec![image, records])
     });
     hold_equal("read", list, &left.collect::<Vec<_>>());
+    let left = MEASURE[..count.min(MEASURES)].iter().map(|measure| {
+        let mut answer = vec![0xBBBB_BBBB; numbers];
+        let verdict = measure(list, image, &mut answer);
+        (verdict, answer, vec![])
+    });
+    hold_equal("measure", list, &left.collect::<Vec<_>>());
     compare_writers("normalise", &NORMALISE[..count], list, image, room, numbers);
     compare_writers("to_pci", &TO_PCI[..count], list, image, room, numbers);
 }
@@ -132,11 +147,7 @@ fn compare_all(lists: &[Vec<u32>]) -> usize {
 }
 
 /// The clashes but for window clips: raster bits, bit 23 of a load, a plane range.
-const CLASHES: [[u32; 4]; 3] = [
-    [0x8800_4000, 0, 0, 0],
-    [0x4090_0000, 0, 0, 0],
-    [0x4050_2400, 0, 0, 0],
-];
+const CLASHES: [[u32; 4]; 3] = [[0x8800_4000, 0, 0, 0], [0x4090_0000, 0, 0, 0], [0x4050_2400, 0, 0, 0]];
 
 /// Compares on zero commands of each id with one bit changed, on window clips with every bank, page maximum and
 /// minimum, and on the other clashes. Gives their number.
@@ -157,12 +168,12 @@ fn compare_commands() -> usize {
 }
 
 /// The shortest time of a round over all lists, for each implementation. They take turns within a round.
-fn time(rounds: usize, mut run: impl FnMut(usize)) -> [Duration; COUNT] {
-    let mut best = [Duration::MAX; COUNT];
+fn time<const N: usize>(rounds: usize, mut run: impl FnMut(usize)) -> [Duration; N] {
+    let mut best = [Duration::MAX; N];
     for round in 0..rounds {
         // Of three, each is first in turn, so that none always follows the same one.
-        let first = if COUNT == 3 { round } else { 0 };
-        for which in (first..first + COUNT).map(|turn| turn % COUNT) {
+        let first = if N == 3 { round } else { 0 };
+        for which in (first..first + N).map(|turn| turn % N) {
             let start = Instant::now();
             run(which);
             best[which] = best[which].min(start.elapsed());
@@ -171,7 +182,7 @@ fn time(rounds: usize, mut run: impl FnMut(usize)) -> [Duration; COUNT] {
     best
 }
 
-fn line(name: &str, unit: &str, units: usize, times: [Duration; COUNT]) {
+fn line(name: &str, unit: &str, units: usize, times: &[Duration]) {
     let per = |t: Duration| t.as_secs_f64() * 1e9 / units as f64;
     let ratio = |t: Duration| times[0].as_secs_f64() / t.as_secs_f64();
     let [proved, rust] = [times[0], times[1]];
@@ -182,7 +193,7 @@ fn line(name: &str, unit: &str, units: usize, times: [Duration; COUNT]) {
     println!();
 }
 
-/// Times the four functions on lists of one kind. Each implementation's reader goes on from the image that it left.
+/// Times the five functions on lists of one kind. Each implementation's reader goes on from the image that it left.
 fn time_lists(rounds: usize, name: &str, lists: &[Vec<u32>]) {
     let mut images = [[0u32; 256]; COUNT];
     let image = [0u32; 256];
@@ -190,22 +201,28 @@ fn time_lists(rounds: usize, name: &str, lists: &[Vec<u32>]) {
     let mut answer = [0u32; 6];
     let words: usize = lists.iter().map(Vec::len).sum();
     let (units, unit) = if words / lists.len() < 20 { (lists.len(), "ns per call") } else { (words, "ns per word") };
-    let read = time(rounds, |which| {
+    let read: [_; COUNT] = time(rounds, |which| {
         for list in lists {
             black_box(READ[which](list, &mut images[which], &mut buffer, &mut answer));
         }
     });
-    line(&format!("read, {name}"), unit, units, read);
+    line(&format!("read, {name}"), unit, units, &read);
+    let measure: [_; MEASURES] = time(rounds, |which| {
+        for list in lists {
+            black_box(MEASURE[which](list, &image, &mut answer));
+        }
+    });
+    line(&format!("measure, {name}"), unit, units, &measure);
     let pairs: Vec<_> = lists.iter().map(|list| pairs_of(list)).collect();
     for (function, writers, inputs) in
         [("normalise", NORMALISE, lists), ("to_pci", TO_PCI, lists), ("from_pci", FROM_PCI, &pairs)]
     {
-        let times = time(rounds, |which| {
+        let times: [_; COUNT] = time(rounds, |which| {
             for input in inputs {
                 black_box(writers[which](input, &image, &mut buffer, &mut answer));
             }
         });
-        line(&format!("{function}, {name}"), unit, units, times);
+        line(&format!("{function}, {name}"), unit, units, &times);
     }
 }
 

@@ -207,8 +207,20 @@ fn check_group(id: u8, header: u32, row: &Row, rest: &[u32], at: usize) -> Resul
     Ok(size)
 }
 
+/// What is made of the commands of a list while they are checked.
+trait Pass {
+    fn command(&mut self, list: &[u32], at: usize, size: usize, kind: Kind);
+}
+
+/// Nothing.
+impl Pass for () {
+    #[inline(always)]
+    fn command(&mut self, _: &[u32], _: usize, _: usize, _: Kind) {}
+}
+
 /// Checks a list. Gives the start of the first command that fails.
-fn check(list: &[u32]) -> Result<Counts, usize> {
+#[inline(always)]
+fn check(list: &[u32], pass: &mut impl Pass) -> Result<Counts, usize> {
     let mut counts = Counts { commands: 0, records: 0 };
     let mut at = 0;
     let mut flip = false;
@@ -228,6 +240,7 @@ fn check(list: &[u32]) -> Result<Counts, usize> {
         flip = matches!(id, 0x21 | 0x23 | 0x25);
         counts.commands += 1;
         counts.records += !matches!(row.kind, Kind::Setting(_)) as u32;
+        pass.command(list, at, size, row.kind);
         at += size;
     }
     Ok(counts)
@@ -263,14 +276,19 @@ pub fn refuse(answer: &mut [u32], refusal: Refusal) -> u32 {
     give(answer, [refusal.verdict, refusal.position as u32, 0, 0, 0, refusal.bit])
 }
 
-fn check_all(list: &[u32], image: &[u32]) -> Result<Counts, Refusal> {
+fn check_sizes(list: &[u32], image: &[u32]) -> Result<(), Refusal> {
     if list.len() > LIMIT {
         return Err(Refusal::new(1, LIMIT));
     }
     if image.len() != IMAGE {
         return Err(Refusal::new(2, 0));
     }
-    check(list).map_err(|at| refused(&list[at..], at))
+    Ok(())
+}
+
+fn check_all(list: &[u32], image: &[u32]) -> Result<Counts, Refusal> {
+    check_sizes(list, image)?;
+    check(list, &mut ()).map_err(|at| refused(&list[at..], at))
 }
 
 /// Applies an accepted list.
@@ -440,4 +458,42 @@ pub fn normalise(list: &[u32], image: &[u32], out: &mut [u32], answer: &mut [u32
     form(list, image, &mut write);
     let words = write.len as u32;
     give(answer, [0, list.len() as u32, counts.commands, counts.records, words, NO_BIT])
+}
+
+/// The length of a form, counted while its list is checked.
+struct Measured {
+    settings: Settings,
+    words: Count,
+}
+
+impl Pass for Measured {
+    #[inline(always)]
+    fn command(&mut self, list: &[u32], at: usize, size: usize, kind: Kind) {
+        if let Kind::Setting(which) = kind {
+            self.settings.set(which, at);
+        } else {
+            self.settings.flush(list, &mut self.words);
+            self.words.0 += size;
+        }
+    }
+}
+
+/// Checks a list and counts its form in one pass.
+fn measure_all(list: &[u32], image: &[u32]) -> Result<(Counts, usize), Refusal> {
+    check_sizes(list, image)?;
+    let image = image.try_into().map_err(|_| Refusal::new(2, 0))?;
+    let mut measured = Measured { settings: Settings::new(image), words: Count(0) };
+    let counts = check(list, &mut measured).map_err(|at| refused(&list[at..], at))?;
+    measured.settings.flush(list, &mut measured.words);
+    Ok((counts, measured.words.0))
+}
+
+#[inline(never)]
+pub fn measure(list: &[u32], image: &[u32], answer: &mut [u32]) -> u32 {
+    match measure_all(list, image) {
+        Ok((counts, words)) => {
+            give(answer, [0, list.len() as u32, counts.commands, counts.records, words as u32, NO_BIT])
+        }
+        Err(refusal) => refuse(answer, refusal),
+    }
 }
