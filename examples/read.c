@@ -1,6 +1,10 @@
-/* Reads a list, writes its normal form, and its PCI writes and the list of these, and reads two bad lists, from C. */
+/*
+ * From C: reads a list, asks how long its normal form is and writes it in just that room, writes its PCI writes and the list
+ * of these, and reads two bad lists.
+ */
 #include <inttypes.h>
 #include <stdio.h>
+#include <stdlib.h>
 #include <string.h>
 
 #include "xp10.h"
@@ -26,15 +30,38 @@ static void print_refusal(const char *name, const uint32_t *list, size_t list_wo
         print_answer(name, answer);
 }
 
+/* Asks for the room that the normal form takes, and lends so much, and then one word less. */
+static void print_form(const uint32_t *list, size_t list_words, const uint32_t *start, size_t start_words)
+{
+    uint32_t answer[XP10_ANSWER_WORDS] = {0};
+
+    xp10_measure(list, list_words, start, start_words, answer, WORDS(answer));
+    print_answer("measure", answer);
+    size_t words = answer[XP10_WORDS];
+    uint32_t *out = calloc(words + 1, sizeof *out); /* not null, also for no words */
+    if (answer[XP10_VERDICT] != XP10_ACCEPTED || out == NULL)
+        exit(1);
+
+    xp10_normalise(list, list_words, start, start_words, out, words, answer, WORDS(answer));
+    print_answer("normalise", answer);
+    for (size_t i = 0; i < words; i++)
+        printf("%08" PRIx32 "\n", out[i]);
+    if (words > 0) {
+        xp10_normalise(list, list_words, start, start_words, out, words - 1, answer, WORDS(answer));
+        print_answer("one word less", answer);
+    }
+    free(out);
+}
+
 int main(void)
 {
     static const uint32_t list[] = {0x02000010, 0x00000300, 0x48000000, 0, 0, 0, 0x21000100, 0x10100007, 0, 0, 0};
+    static const uint32_t repeats[] = {0x02000010, 0x02000020, 0x00000001, 0x02000020};
     static const uint32_t undefined[] = {0x01000002};
     static const uint32_t clash[] = {0x84000000, 0x10000000, 0xC0000000, 0};
     uint32_t image[256] = {0};
     static const uint32_t start[256] = {0};
     uint32_t records[4 * WORDS(list)] = {0};
-    uint32_t out[WORDS(list)] = {0};
     uint32_t pairs[2 * WORDS(list)] = {0};
     uint32_t back[WORDS(list)] = {0};
     uint32_t answer[XP10_ANSWER_WORDS] = {0};
@@ -45,10 +72,8 @@ int main(void)
         printf("%" PRIu32 " %02" PRIx32 " %" PRIu32 " %06" PRIx32 "\n", r[1], r[0], r[2], r[3]);
     printf("image word 02 is %06" PRIx32 "\n", image[0x02]);
 
-    xp10_normalise(list, WORDS(list), start, WORDS(start), out, WORDS(out), answer, WORDS(answer));
-    print_answer("normalise", answer);
-    for (uint32_t i = 0; i < answer[XP10_WORDS]; i++)
-        printf("%08" PRIx32 "\n", out[i]);
+    print_form(list, WORDS(list), start, WORDS(start));
+    print_form(repeats, WORDS(repeats), start, WORDS(start));
 
     xp10_to_pci(list, WORDS(list), start, WORDS(start), pairs, WORDS(pairs), answer, WORDS(answer));
     print_answer("to_pci", answer);

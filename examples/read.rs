@@ -1,4 +1,5 @@
-//! Reads a list, writes its normal form, and its PCI writes and the list of these, and reads two bad lists, from Rust.
+//! From Rust: reads a list, asks how long its normal form is and writes it in just that room, writes its PCI writes and the
+//! list of these, and reads two bad lists.
 
 extern "C" {
     fn xp10_read(
@@ -19,6 +20,15 @@ extern "C" {
         image_words: usize,
         out: *mut u32,
         out_words: usize,
+        answer: *mut u32,
+        answer_words: usize,
+    ) -> u32;
+
+    fn xp10_measure(
+        list: *const u32,
+        list_words: usize,
+        image: *const u32,
+        image_words: usize,
         answer: *mut u32,
         answer_words: usize,
     ) -> u32;
@@ -67,6 +77,13 @@ fn read(list: &[u32], image: &mut [u32], records: &mut [u32]) -> Answer {
     answer
 }
 
+fn measure(list: &[u32], image: &[u32]) -> Answer {
+    let mut answer = [0; 6];
+    // SAFETY: as for `read`.
+    unsafe { xp10_measure(list.as_ptr(), list.len(), image.as_ptr(), image.len(), answer.as_mut_ptr(), answer.len()) };
+    answer
+}
+
 /// A function that only reads the image and writes words: the normaliser, and PCI writes from a list and back.
 type Writer = unsafe extern "C" fn(*const u32, usize, *const u32, usize, *mut u32, usize, *mut u32, usize) -> u32;
 
@@ -95,12 +112,25 @@ fn print_answer(name: &str, answer: Answer) {
     );
 }
 
+/// Asks for the room that the normal form takes, and lends so much, and then one word less.
+fn print_form(list: &[u32], start: &[u32]) {
+    let told = measure(list, start);
+    print_answer("measure", told);
+    let mut out = vec![0; told[4] as usize];
+    print_answer("normalise", write(xp10_normalise, list, start, &mut out));
+    for word in &out {
+        println!("{word:08x}");
+    }
+    if let Some((_, less)) = out.split_last_mut() {
+        print_answer("one word less", write(xp10_normalise, list, start, less));
+    }
+}
+
 fn main() {
     let list = [0x02000010, 0x00000300, 0x48000000, 0, 0, 0, 0x21000100, 0x10100007, 0, 0, 0];
     let start = [0; 256];
     let mut image = start;
     let mut records = [0; 44];
-    let mut out = [0; 11];
     let mut pairs = [0; 22];
     let mut back = [0; 11];
 
@@ -111,11 +141,8 @@ fn main() {
     }
     println!("image word 02 is {:06x}", image[0x02]);
 
-    let answer = write(xp10_normalise, &list, &start, &mut out);
-    print_answer("normalise", answer);
-    for word in &out[..answer[4] as usize] {
-        println!("{word:08x}");
-    }
+    print_form(&list, &start);
+    print_form(&[0x02000010, 0x02000020, 0x00000001, 0x02000020], &start);
 
     let answer = write(xp10_to_pci, &list, &start, &mut pairs);
     print_answer("to_pci", answer);

@@ -1,5 +1,6 @@
 /*
- * XP10 command lists: the reader, the normaliser, and PCI writes from a list and back, proved in Rattle (crates/host).
+ * XP10 command lists: the reader, the normaliser and the room that it needs, and PCI writes from a list and back, proved in
+ * Rattle (crates/host).
  * Link with target/staticlib/libhost.a, which `rt staticlib host` makes.
  *
  * Each slice is a pointer and a number of 32-bit words. No pointer is null, also with no words, and a slice that is
@@ -48,7 +49,7 @@ enum {
     XP10_POSITION,
     XP10_COMMANDS,
     XP10_RECORDS,
-    XP10_WORDS, /* the words written to `records`, `out`, `pairs` or `list` */
+    XP10_WORDS, /* the words written to `records`, `out`, `pairs` or `list`; of xp10_measure, those that the form has */
     XP10_BIT,   /* with XP10_UNDEFINED_BIT the number of the lowest undefined bit set in the word, else 32 */
     XP10_ANSWER_WORDS
 };
@@ -70,6 +71,16 @@ uint32_t xp10_normalise(const uint32_t *list, size_t list_words,
                         const uint32_t *image, size_t image_words,
                         uint32_t *out, size_t out_words,
                         uint32_t *answer, size_t answer_words);
+
+/*
+ * Tells the room that a list's normal form takes, before a buffer is lent: returns the verdict, and on acceptance
+ * XP10_WORDS is the form's length, at most the list's. It refuses what xp10_normalise refuses but for
+ * XP10_BUFFER_TOO_SMALL, and only `answer` is written. An `out` of just so many words is enough for xp10_normalise, which
+ * then gives the same answer, and one word less never is.
+ */
+uint32_t xp10_measure(const uint32_t *list, size_t list_words,
+                      const uint32_t *image, size_t image_words,
+                      uint32_t *answer, size_t answer_words);
 
 /*
  * Writes a list as PCI writes, for a board without list fetch: returns the verdict. Two words for each of the list, the

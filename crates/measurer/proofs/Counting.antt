@@ -1,5 +1,5 @@
 -- Where nothing is written the count is the form's.
-use Prim.Native.Nat.{ℕ, suc, _+_, _/_, _%_, _^_, _≤_, _<_}
+use Prim.Native.Nat.{ℕ, suc, _+_, _-_, _/_, _%_, _^_, _≤_, _<_}
 use native.Mathlib.Omega.{arith}
 use native.Mathlib.Decide.{ℕ-discrete}
 use mathlib.Core.Path.{_≡_, refl, ap, sym, _∙_}
@@ -19,10 +19,9 @@ use Rattle.command.proofs.Effects.{no-kind}
 use Rattle.settings.specs.Numbers.{numbers, numberOf}
 use Rattle.settings.specs.Output.{longest, Output, isBuilt, putOne, emitOne, emitEach, emitChanged}
 use Rattle.draft.specs.declared.Draft.{Draft}
-use Rattle.draft.specs.Drafts.{Drafted, outputOf, afterCommand, CanTake}
+use Rattle.draft.specs.Drafts.{Drafted, outputOf, afterCommand, CanWork, CanTake}
 use Rattle.draft.proofs.Copying.{sets-past}
 use Rattle.draft.proofs.Taking.{setting-number, group-size, single-size, took-setting}
-use Rattle.measurer.specs.Counts.{afterCount, CanCount}
 
 -- a buffer without words stays so
 module _ (l image latest : List ℕ) (more : ℕ) where
@@ -44,18 +43,24 @@ changed-out changed l image latest o e =
     each-out l image latest 3 (numbers 64 16 (changed / 65536)) (emitEach 0 l image latest (numbers 64 0 (changed % 65536)) o)
     (each-out l image latest 0 (numbers 64 0 (changed % 65536)) o e)
 
--- one command, by whether it is a setting
-module _ (l image : List ℕ) (s : Drafted) (none : s .out ≡ []) (h : CanTake l image s) (n : ℕ) (en : n ≡ sizeAt l (s .draft .at))
+-- one command of n words, by whether it is a setting
+module _ (l image : List ℕ) (s : Drafted) (none : s .out ≡ []) (h : CanTake l image s) (next : ℕ) (en : next ≡ s .draft .at + sizeAt l (s .draft .at))
     (setting : Bool) (is : setting ≡ not (eqb (settingKind (idAt l (s .draft .at))) 0)) where
+  abbrev n : ℕ
+  n = next - s .draft .at
+
+  size-is : sizeAt l (s .draft .at) ≡ n
+  size-is = omega arith
+
   module _ (t : setting ≡ true) (w id : ℕ) (ew : w ≡ getD l (s .draft .at) 0) (ei : id ≡ idOf w) where
     has-kind : settingKind id ≡ 0 → ⊥
     has-kind e = eqb-false _ 0 (not-true _ (sym is ∙ t)) (ap settingKind (sym (ei ∙ ap idOf ew)) ∙ e)
 
     own-size : n ≤ 4
     own-size = elim (ℕ-discrete (settingKind id) 2) [
-      | yes e ↦ omega (arith, en, group-size l image s h w id (settingKind id) ew ei refl e)
+      | yes e ↦ omega (arith, size-is, group-size l image s h w id (settingKind id) ew ei refl e)
       | no f ↦ elim (ℕ-discrete (settingKind id) 1) [
-        | yes e ↦ omega (arith, en, single-size l image s h w id (settingKind id) ew ei refl e)
+        | yes e ↦ omega (arith, size-is, single-size l image s h w id (settingKind id) ew ei refl e)
         | no g ↦ absurd (has-kind (no-kind id f g))
       ]
     ]
@@ -66,21 +71,25 @@ module _ (l image : List ℕ) (s : Drafted) (none : s .out ≡ []) (h : CanTake 
     pub counted-setting : (d : Draft) (latest : List ℕ)
         → d ≡ record { at = s .draft .at + n; written = s .draft .written; changed = bitOr (s .draft .changed) (2 ^ numberOf id) }
         → latest ≡ set (s .latest) (numberOf id) (s .draft .at)
-        → record { draft = d; latest = latest; sent = s .sent; out = s .out } ≡ afterCommand l image s
-    counted-setting d latest ed el = took-setting l image s h w id (settingKind id) ew ei refl has-kind n (sym en) d latest ed el
+        → record { draft = record { at = next; written = d .written; changed = d .changed }; latest = latest; sent = s .sent; out = s .out } ≡ afterCommand l image s
+    counted-setting d latest ed el =
+        let at-is : next ≡ d .at = omega (arith, ap (λ (x : Draft). x .at) ed) in
+        ap (λ (j : ℕ). record { draft = record { at = j; written = d .written; changed = d .changed }; latest = latest; sent = s .sent; out = s .out }) at-is
+        ∙ took-setting l image s h w id (settingKind id) ew ei refl has-kind n size-is d latest ed el
 
   module _ (f : setting ≡ false) where
     no-setting : settingKind (idAt l (s .draft .at)) ≡ 0
     no-setting = eqb-true _ 0 (not-false _ (sym is ∙ f))
 
-    pub can-count : CanCount l image n s
-    can-count = let w = h .work no-setting in record { emits = w .emits; fits = w .fits; inside = omega (arith, en, h .command .inside, h .command .few) }
+    pub can-count : CanWork l image s
+    can-count = h .work no-setting
 
-    pub counted-work : (s′ : Drafted) → s′ ≡ afterCount l image n s → s′ ≡ afterCommand l image s
+    pub counted-work : (o : Output) → o ≡ emitChanged (s .draft .changed) l image (s .latest) (outputOf s)
+        → record { draft = record { at = next; written = o .written + n; changed = 0 }; latest = s .latest; sent = o .sent; out = [] } ≡ afterCommand l image s
     unfolding afterCommand
-    counted-work s′ e =
-        let o : Output = emitChanged (s .draft .changed) l image (s .latest) (outputOf s) in
+    counted-work o e =
         let words : List ℕ = read l (s .draft .at) (sizeAt l (s .draft .at)) in
-        let out : sets (o .out) (o .written) words ≡ [] =
-        ap (λ (x : List ℕ). sets x (o .written) words) (changed-out (s .draft .changed) l image (s .latest) (outputOf s) none) ∙ sets-past [] (o .written) words (omega arith) in
-        e ∙ rw (no-setting, out, en)
+        let p : Output = emitChanged (s .draft .changed) l image (s .latest) (outputOf s) in
+        let out : sets (p .out) (p .written) words ≡ [] =
+        ap (λ (x : List ℕ). sets x (p .written) words) (changed-out (s .draft .changed) l image (s .latest) (outputOf s) none) ∙ sets-past [] (p .written) words (omega arith) in
+        rw (no-setting, out, ← en, ← size-is, e)

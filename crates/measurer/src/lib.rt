@@ -10,7 +10,7 @@ use rules::NO_BIT;
 use rules::Refusal;
 ghost use mathlib.Core.Path.{_≡_};
 ghost use mathlib.Core.Bool.{true, cond, not};
-ghost use mathlib.Core.List.{List, []};
+ghost use mathlib.Core.List.{List};
 ghost use Prim.Native.Nat.{ℕ, _+_, _<_, _≤_};
 ghost use lib.Dec.{eqb};
 ghost use lib.ListN.{length};
@@ -23,11 +23,12 @@ ghost use Rattle.command.specs.Effects.{idAt};
 ghost use Rattle.list.specs.View.{stepAt, Counted};
 ghost use Rattle.settings.specs.Output.{longest};
 ghost use Rattle.draft.specs.Drafts.{afterCommand, CanTake};
-ghost use Rattle.measurer.specs.Counts.{afterCount, CanCount};
+ghost use Rattle.measurer.specs.Counts.{counted};
 
-// A form that is counted: where it stands, and the work commands in it.
+// A form that is counted: its words, the settings set since the last work command, and the work commands.
 pub struct Tally {
-    pub draft: Draft,
+    pub words: usize,
+    pub changed: u64,
     pub works: usize,
 }
 
@@ -79,48 +80,38 @@ fn step(rows: &[u8; 256], list: &[u32], c: Cursor) -> Step
     c.take(command::decode_single(list, c.at, id, row))
 }
 
-// The differing settings, and so many words of work.
-fn count_work(
-    list: &[u32],
-    image: &[u32],
-    d: Draft,
-    words: usize,
-    latest: &[u16; 64],
-    sent: &mut [u16; 64],
-) -> Draft
-    requires { ⌜ CanCount (now list) (now image) words (record { draft = d; latest = now latest; sent = now sent; out = [] }) ⌝ }
-    ensures { λ r. ⌜ record { draft = r; latest = now (latest .entry); sent = now (sent .exit); out = [] } ≡ afterCount (now (list .entry)) (now (image .entry)) words (record { draft = d; latest = now (latest .entry); sent = now (sent .entry); out = [] }) ⌝ }
-{
-    let n = settings::count_changed(d.changed, list, image, latest, sent, d.written);
-    Draft {
-        at: d.at + words,
-        written: n + words,
-        changed: 0,
-    }
-}
-
-// One command of so many words.
+// The command between two cursors: a setting is remembered; before work the differing settings are counted, and then its words.
 fn count_command(
     list: &[u32],
     image: &[u32],
+    c: Cursor,
+    next: Cursor,
     t: Tally,
-    words: usize,
-    setting: bool,
     latest: &mut [u16; 64],
     sent: &mut [u16; 64],
 ) -> Tally
-    requires { ⌜ CanTake (now list) (now image) (record { draft = t .draft; latest = now latest; sent = now sent; out = [] }) × (words ≡ sizeAt (now list) (t .draft .at)) × (setting ≡ not (eqb (settingKind (idAt (now list) (t .draft .at))) 0)) × (t .works ≤ longest) ⌝ }
-    ensures { λ r. ⌜ (record { draft = r .draft; latest = now (latest .exit); sent = now (sent .exit); out = [] } ≡ afterCommand (now (list .entry)) (now (image .entry)) (record { draft = t .draft; latest = now (latest .entry); sent = now (sent .entry); out = [] })) × (r .works ≡ t .works + cond setting 0 1) ⌝ }
+    requires { ⌜ CanTake (now list) (now image) (counted (c .at) t (now latest) (now sent)) × (next .at ≡ c .at + sizeAt (now list) (c .at)) × (eqb (next .records) (c .records) ≡ not (eqb (settingKind (idAt (now list) (c .at))) 0)) × (t .works ≤ longest) ⌝ }
+    ensures { λ r. ⌜ (counted (next .at) r (now (latest .exit)) (now (sent .exit)) ≡ afterCommand (now (list .entry)) (now (image .entry)) (counted (c .at) t (now (latest .entry)) (now (sent .entry)))) × (r .works ≡ t .works + cond (eqb (next .records) (c .records)) 0 1) ⌝ }
 {
-    if setting {
-        let id = words::id_of(words::fetch(list, t.draft.at));
+    let words = next.at - c.at;
+    if next.records == c.records {
+        let id = words::id_of(words::fetch(list, c.at));
+        let d = Draft {
+            at: c.at,
+            written: t.words,
+            changed: t.changed,
+        };
+        let e = draft::take_setting(d, id, words, latest);
         return Tally {
-            draft: draft::take_setting(t.draft, id, words, latest),
+            words: e.written,
+            changed: e.changed,
             works: t.works,
         };
     }
+    let n = settings::count_changed(t.changed, list, image, latest, sent, t.words);
     Tally {
-        draft: count_work(list, image, t.draft, words, latest, sent),
+        words: n + words,
+        changed: 0,
         works: t.works + 1,
     }
 }
@@ -135,11 +126,8 @@ fn walk(rows: &[u8; 256], list: &[u32], image: &[u32]) -> Answer
     let mut sent = [0u16; 64];
     let mut c = Cursor::start();
     let mut t = Tally {
-        draft: Draft {
-            at: 0,
-            written: 0,
-            changed: 0,
-        },
+        words: 0,
+        changed: 0,
         works: 0,
     };
     while c.at < list.len() {
@@ -147,37 +135,20 @@ fn walk(rows: &[u8; 256], list: &[u32], image: &[u32]) -> Answer
         match s {
             Step::Refused(f) => return list::refuse(f),
             Step::On(next) => {
-                let here = Tally {
-                    draft: Draft {
-                        at: c.at,
-                        written: t.draft.written,
-                        changed: t.draft.changed,
-                    },
-                    works: t.works,
-                };
-                let setting = next.records == c.records;
-                t = count_command(
-                    list,
-                    image,
-                    here,
-                    next.at - c.at,
-                    setting,
-                    &mut latest,
-                    &mut sent,
-                );
+                t = count_command(list, image, c, next, t, &mut latest, &mut sent);
                 c = next;
             }
         }
     }
     let mut nothing = [0u32; 0];
     let words = settings::emit_changed(
-        t.draft.changed,
+        t.changed,
         list,
         image,
         &latest,
         &mut sent,
         &mut nothing,
-        t.draft.written,
+        t.words,
     );
     list::accepted(list.len(), c.commands, t.works, words)
 }

@@ -24,22 +24,17 @@ returns c =
     rw (c .refuse .ensures)
     (measuring-stop _ _ (c .before .before .before .before .before .before .before .before .before .before .before .pre .1) (c .before .before .before .before .before .before .before .before .before .before .before .pre .2) _ _ _ _ (c .before .before .before .before .before .before .before .loop .inv) (c .before .before .before .before .before .if1 .taken) _ (λ image. sym (c .before .before .s .given .1) ∙ c .before .before .before .before .step .ensures image))
 
-sub-count-command : tie.Need-sub-count-command Inv-loop μ-loop
-sub-count-command c =
-    let f = forward _ _ (c .before .before .before .before .before .before .before .before .before .before .before .before .before .before .pre .1) (c .before .before .before .before .before .before .before .before .before .before .before .before .before .before .pre .2) _ _ _ _ (c .before .before .before .before .before .before .before .before .before .before .loop .inv) (c .before .before .before .before .before .before .before .before .if1 .taken) _ (λ image. sym (c .before .before .before .before .before .s2 .given .1) ∙ c .before .before .before .before .before .before .before .step .ensures image) in
-    omega (arith, f)
-
 count-command-requires : tie.Need-count-command-requires Inv-loop μ-loop
-count-command-requires c κs = can-go-on _ _ (c .before .before .before .before .before .before .before .before .before .before .before .before .before .before .before .before .pre .1) (c .before .before .before .before .before .before .before .before .before .before .before .before .before .before .before .before .pre .2) _ _ _ _ (c .before .before .before .before .before .before .before .before .before .before .before .before .loop .inv) (c .before .before .before .before .before .before .before .before .before .before .if1 .taken) _ (λ image. sym (c .before .before .before .before .before .before .before .s2 .given .1) ∙ c .before .before .before .before .before .before .before .before .before .step .ensures image)
+count-command-requires c κs = can-go-on _ _ (c .before .before .before .before .before .before .before .before .before .before .before .before .pre .1) (c .before .before .before .before .before .before .before .before .before .before .before .before .pre .2) _ _ _ _ (c .before .before .before .before .before .before .before .before .loop .inv) (c .before .before .before .before .before .before .if1 .taken) _ (λ image. sym (c .before .before .before .s2 .given .1) ∙ c .before .before .before .before .before .step .ensures image)
 
 loop-less : tie.Need-loop-less Inv-loop μ-loop
 loop-less c =
-    let f = forward _ _ (c .before .before .before .before .before .before .before .before .before .before .before .before .before .before .before .before .before .pre .1) (c .before .before .before .before .before .before .before .before .before .before .before .before .before .before .before .before .before .pre .2) _ _ _ _ (c .before .before .before .before .before .before .before .before .before .before .before .before .before .loop .inv) (c .before .before .before .before .before .before .before .before .before .before .before .if1 .taken) _ (λ image. sym (c .before .before .before .before .before .before .before .before .s2 .given .1) ∙ c .before .before .before .before .before .before .before .before .before .before .step .ensures image) in
-    omega (arith, f, c .before .before .before .before .before .before .before .before .before .before .before .if1 .taken)
+    let f = forward _ _ (c .before .before .before .before .before .before .before .before .before .before .before .before .before .pre .1) (c .before .before .before .before .before .before .before .before .before .before .before .before .before .pre .2) _ _ _ _ (c .before .before .before .before .before .before .before .before .before .loop .inv) (c .before .before .before .before .before .before .before .if1 .taken) _ (λ image. sym (c .before .before .before .before .s2 .given .1) ∙ c .before .before .before .before .before .before .step .ensures image) in
+    omega (arith, f, c .before .before .before .before .before .before .before .if1 .taken)
 
 loop-again : tie.Need-loop-again Inv-loop μ-loop
 loop-again c =
-    measuring-on _ _ (c .before .before .before .before .before .before .before .before .before .before .before .before .before .before .before .before .before .pre .1) (c .before .before .before .before .before .before .before .before .before .before .before .before .before .before .before .before .before .pre .2) _ _ _ _ (c .before .before .before .before .before .before .before .before .before .before .before .before .before .loop .inv) (c .before .before .before .before .before .before .before .before .before .before .before .if1 .taken) _ (λ image. sym (c .before .before .before .before .before .before .before .before .s2 .given .1) ∙ c .before .before .before .before .before .before .before .before .before .before .step .ensures image) _ _ _ (c .count-command .ensures .0) (c .count-command .ensures .1)
+    measuring-on _ _ (c .before .before .before .before .before .before .before .before .before .before .before .before .before .pre .1) (c .before .before .before .before .before .before .before .before .before .before .before .before .before .pre .2) _ _ _ _ (c .before .before .before .before .before .before .before .before .before .loop .inv) (c .before .before .before .before .before .before .before .if1 .taken) _ (λ image. sym (c .before .before .before .before .s2 .given .1) ∙ c .before .before .before .before .before .before .step .ensures image) _ _ _ (c .count-command .ensures .0) (c .count-command .ensures .1)
 
 emit-changed-requires : tie.Need-emit-changed-requires Inv-loop μ-loop
 emit-changed-requires c κs = can-end-now _ _ (c .before .before .before .before .before .before .before .before .before .pre .1) (c .before .before .before .before .before .before .before .before .before .pre .2) _ _ _ _ (c .before .before .before .before .before .loop .inv) (c .before .before .before .if1 .left)
@@ -51,4 +46,4 @@ pub walk-spec : {M : Type 1} → statement M
 walk-spec =
     tie.close
     (tie.spec Inv-loop μ-loop (λ c κs. tt) loop-holds step-requires (λ c. search needs) (λ c κs. search needs) returns (λ c. search needs)
-    sub-count-command count-command-requires loop-less loop-again (λ c. search needs) emit-changed-requires (λ c κs. search needs) returns-2)
+    count-command-requires loop-less loop-again (λ c. search needs) emit-changed-requires (λ c κs. search needs) returns-2)
