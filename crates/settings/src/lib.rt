@@ -179,7 +179,7 @@ pub fn emit_changed(
     emit_groups(changed, list, image, latest, sent, out, m)
 }
 
-// ---- counted, not written
+// ---- counted, not written: whether a setting differs is hard to predict, so no branch asks for it
 
 // Where the command stands that the form last put out, once one is put out or not.
 fn sent_after(same: bool, before: u16, at: usize) -> u16

@@ -209,6 +209,12 @@ module _ (ws image : List ℕ) where
   told : normalising ws image ws .answer ≡ measuring ws image
   told = told-is-enough ws image ws told-never-longer
 
+  -- "with the normaliser's refusals except 11"
+  pub measurer-never-eleven : measuring ws image .verdict ≡ 11 → ⊥
+  measurer-never-eleven e =
+      let accepted = eleven-exactly ws image ws .0 (ap (λ (a : Answer). a .verdict) told ∙ e) .0 in
+      omega (arith, e, accepted)
+
   -- "(0 on refusal)"
   pub measurer-refuses : (measuring ws image .verdict ≡ 0 → ⊥) → measuring ws image ≡ refusedAnswer (refusalOf (measuring ws image))
   measurer-refuses n =
