@@ -1,19 +1,13 @@
 -- Words of a list copied one by one as far as a buffer goes.
-use Prim.Native.Nat.{ℕ, suc, _+_, _-_, _≤_, min}
+use Prim.Native.Nat.{ℕ, _+_, _-_, _≤_, min}
 use native.Mathlib.Omega.{arith}
 use native.Mathlib.Decide.{ℕ-discrete}
-use mathlib.Core.Path.{_≡_, refl, ap, sym, _∙_}
-use mathlib.Core.List.{List, [], _∷_}
-use lib.ListN.{length, set}
-use lib.Seq.{sets, set-out, length-sets}
+use mathlib.Core.Path.{_≡_, ap, sym, _∙_}
+use mathlib.Core.List.{List}
+use lib.ListN.{length}
+use lib.Seq.{sets, length-sets}
 use Rattle.rules.specs.Form.{read}
-use Rattle.theory.proofs.Image.{sets-read-add}
-
-pub sets-past : (l : List ℕ) (i : ℕ) (vs : List ℕ) → length l ≤ i → sets l i vs ≡ l
-sets-past l i [] h = refl
-sets-past l i (v ∷ vs) h =
-    let e : set l i v ≡ l = set-out l i v h in
-    ap (λ (x : List ℕ). sets x (suc i) vs) e ∙ sets-past l (suc i) vs (omega arith)
+use Rattle.theory.proofs.Image.{sets-past, sets-read-add}
 
 module _ (out : List ℕ) (n : ℕ) (l : List ℕ) (at : ℕ) where
   -- what has no room is not written

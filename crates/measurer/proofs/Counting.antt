@@ -12,6 +12,7 @@ use lib.Seq.{sets}
 use borrow.Author.Tests.{eqb-true, eqb-false, not-true, not-false}
 use Rattle.rules.specs.Word.{idOf}
 use Rattle.rules.specs.Form.{read}
+use Rattle.theory.proofs.Image.{sets-past}
 use Rattle.table.specs.Ids.{settingKind}
 use Rattle.command.specs.View.{sizeAt}
 use Rattle.command.specs.Effects.{idAt}
@@ -20,7 +21,6 @@ use Rattle.settings.specs.Numbers.{numbers, numberOf}
 use Rattle.settings.specs.Output.{longest, Output, isBuilt, putOne, emitOne, emitEach, emitChanged}
 use Rattle.draft.specs.declared.Draft.{Draft}
 use Rattle.draft.specs.Drafts.{Drafted, outputOf, afterCommand, CanWork, CanTake}
-use Rattle.draft.proofs.Copying.{sets-past}
 use Rattle.draft.proofs.Taking.{setting-number, group-size, single-size, took-setting}
 
 -- a buffer without words stays so

@@ -20,7 +20,7 @@ use Rattle.rules.specs.Word.{idOf, headerOf, firstWord}
 use Rattle.rules.specs.Table.{Row, size, settings}
 use Rattle.rules.specs.Command.{Command, words, wordsAll}
 use Rattle.rules.specs.Form.{read, equal, same, emit, differing}
-use Rattle.theory.proofs.Image.{sets-append, equal-true, equal-refl, length-read}
+use Rattle.theory.proofs.Image.{sets-past, sets-append, equal-true, equal-refl, length-read}
 use Rattle.theory.proofs.Rows.{setting-fits}
 use Rattle.rules.specs.Valid.{Valid}
 use Rattle.theory.proofs.Differing.{emit-cong}
@@ -52,11 +52,6 @@ pub read-four : (l : List ℕ) (at w b c d : ℕ) → w ≡ getD l at 0 → b �
     → w ∷ b ∷ c ∷ d ∷ [] ≡ read l at 4
 read-four l at w b c d ew eb ec ed = rw (ew, eb, ec, ed, add-one, add-two, add-three)
 
--- a buffer without words stays so
-sets-none : (n : ℕ) (ws : List ℕ) → sets {A = ℕ} [] n ws ≡ []
-sets-none n [] = refl
-sets-none n (w ∷ ws) = sets-none (suc n) ws
-
 module _ (more : ℕ) (l image latest : List ℕ) (k : ℕ) (o : Output) (w : ℕ) (rest : List ℕ) (e : w ∷ rest ≡ read l (getD latest k 0) (suc more)) where
   chosen-is : (b : Bool) → isBuilt more l image w rest (getD (o .sent) k 0) ≡ b → cond {A = Output} b o (putOne more l latest k o) ≡ emitOne more l image latest k o
   unfolding emitOne
@@ -81,7 +76,7 @@ module _ (more : ℕ) (l image latest : List ℕ) (k : ℕ) (o : Output) (w : �
   emit-counted eo true f n place en ep =
       rw (en, ep, set-getD (o .sent) k 0) (ap (λ (x : List ℕ). record { written = o .written; sent = o .sent; out = x }) (sym eo) ∙ emit-kept (sym f))
   emit-counted eo false f n place en ep =
-      rw (en, ep) (emit-put (sym f) [] (sym (ap (λ (x : List ℕ). sets x (o .written) (w ∷ rest)) eo ∙ sets-none (o .written) (w ∷ rest))))
+      rw (en, ep) (emit-put (sym f) [] (sym (ap (λ (x : List ℕ). sets x (o .written) (w ∷ rest)) eo ∙ sets-past [] (o .written) (w ∷ rest) (omega arith))))
 
 -- the loop over the numbers of a set
 pub record ToEmit (more first : ℕ) (l image latest : List ℕ) (left₀ : ℕ) (o₀ : Output) (left : ℕ) (o : Output) : Type 0 where

@@ -9,7 +9,7 @@ use native.Mathlib.Decide.{ℕ-discrete}
 use lib.Dec.{eqb}
 use borrow.Author.Tests.{eqb-true, eq-eqb}
 use lib.ListN.{length, getD, set, length-set}
-use lib.Seq.{sets, getD-set-same, getD-set-other}
+use lib.Seq.{sets, set-out, getD-set-same, getD-set-other}
 use Rattle.rules.specs.Form.{read, equal}
 use Rattle.theory.proofs.Bools.{and-left, and-right}
 
@@ -78,6 +78,13 @@ equal-refl [] = refl
 equal-refl (x ∷ xs) = ap₂ _&&_ (eq-eqb x x refl) (equal-refl xs)
 
 -- words put one after the other
+-- what is past the end is not put
+pub sets-past : (l : List ℕ) (i : ℕ) (vs : List ℕ) → length l ≤ i → sets l i vs ≡ l
+sets-past l i [] h = refl
+sets-past l i (v ∷ vs) h =
+    let e : set l i v ≡ l = set-out l i v h in
+    ap (λ (x : List ℕ). sets x (suc i) vs) e ∙ sets-past l (suc i) vs (omega arith)
+
 pub sets-append : (l : List ℕ) (i : ℕ) (a b : List ℕ) → sets l i (a ++ b) ≡ sets (sets l i a) (i + length a) b
 sets-append l i [] b = ap (λ (j : ℕ). sets l j b) (omega arith)
 sets-append l i (v ∷ a) b = sets-append (set l i v) (suc i) a b ∙ ap (λ (j : ℕ). sets (sets (set l i v) (suc i) a) j b) (omega arith)
