@@ -1,6 +1,6 @@
 -- The demands, about the definitions that the contracts of `read`, `normalise`, `measure`, `to_pci` and `from_pci` cite:
--- `reading`, `normalising`, `measuring`, `toPci` and `fromPci` give what the functions return and write. Lists, images, pairs and buffers are any
--- words whatever.
+-- `reading`, `normalising`, `measuring`, `toPci` and `fromPci` give what the functions return and write. Lists, images,
+-- pairs and buffers are any words whatever.
 use Prim.Native.Nat.{ℕ, _*_, _≤_, _<_}
 use native.Mathlib.Omega.{arith}
 use mathlib.Core.Path.{_≡_, ap, sym, _∙_, subst}
