@@ -72,7 +72,7 @@ fn emit_work(
 
 // A setting: its command is the latest of its number, which is below 64, rises with the id, and is below 16 for one word.
 pub fn take_setting(d: Draft, id: u8, words: usize, latest: &mut [u16; 64]) -> Draft
-    requires { ⌜ (d .at ≤ longest) × (words ≤ 4) × (numberOf id < 64) ⌝ }
+    requires { ⌜ (d .at ≤ longest) × (words ≤ longest) × (numberOf id < 64) ⌝ }
     ensures { λ r. ⌜ (r ≡ record { at = d .at + words; written = d .written; changed = bitOr (d .changed) (2 ^ numberOf id) }) × (now (latest .exit) ≡ set (now (latest .entry)) (numberOf id) (d .at)) ⌝ }
 {
     let i = (id / 4 + id % 2) as u32;

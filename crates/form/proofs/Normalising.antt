@@ -3,7 +3,7 @@ use Prim.Native.Nat.{ℕ, _≤_, _<_}
 use native.Mathlib.Omega.{arith}
 use mathlib.Core.Path.{_≡_, refl, ap, sym, _∙_}
 use mathlib.Core.List.{List}
-use borrow.Author.Tests.{eqb-false, lt-ltb, le-ltb}
+use borrow.Author.Tests.{lt-ltb, le-ltb}
 use lib.ListN.{length}
 use lib.Seq.{sets}
 use Rattle.rules.specs.declared.Refusal.{Refusal}
@@ -13,8 +13,9 @@ use Rattle.rules.specs.Walk.{Parsed, refused, accepted, parse}
 use Rattle.rules.specs.Form.{form}
 use Rattle.rules.specs.declared.Answer.{Answer}
 use Rattle.rules.specs.Answer.{acceptedAnswer, acceptedList, refuse, writeParsed, measureParsed, normalising, measuring, commandsOf, normalForm}
-use Rattle.theory.proofs.Numbers.{not-zero, RefusesList, parse-refuses}
+use Rattle.theory.proofs.Verdict.{normalising-zero}
 use Rattle.theory.proofs.Form.{form-fits}
+use Rattle.theory.proofs.Demands.{told-is-enough, told-never-longer}
 use Rattle.list.specs.declared.Walked.the-variants as walked
 use Rattle.list.specs.View.{walkedOf}
 use Rattle.list.proofs.Answers.{counts, put-front, answer-refused, answer-done}
@@ -56,12 +57,7 @@ module _ (l image buffer : List ℕ) where
 
   module _ (z : measuring l image .verdict ≡ 0) where
     pub measured-parsed : parse image l ≡ accepted (commandsOf (parse image l))
-    unfolding measuring
-    measured-parsed = by-parsed (parse image l) (parse-refuses image l) z
-      where
-        by-parsed : (x : Parsed) → RefusesList 4098 x → measureParsed l image x .verdict ≡ 0 → x ≡ accepted (commandsOf x)
-        by-parsed (refused f) r z = absurd (eqb-false (f .number) 0 (not-zero r) z)
-        by-parsed (accepted cs) r z = refl
+    measured-parsed = normalising-zero image l l (ap (λ (a : Answer). a .verdict) (told-is-enough l image l (told-never-longer l image)) ∙ z) .parsed
 
     measured-is : measuring l image ≡ acceptedList l (commandsOf (parse image l)) (length (normalForm image l))
     unfolding measuring

@@ -1,7 +1,6 @@
 -- Where nothing is written the count is the form's.
 use Prim.Native.Nat.{ℕ, suc, _+_, _-_, _/_, _%_, _^_, _≤_, _<_}
 use native.Mathlib.Omega.{arith}
-use native.Mathlib.Decide.{ℕ-discrete}
 use mathlib.Core.Path.{_≡_, refl, ap, sym, _∙_}
 use mathlib.Core.Bool.{Bool, true, false, cond, not}
 use mathlib.Core.List.{List, [], _∷_}
@@ -16,12 +15,11 @@ use Rattle.theory.proofs.Image.{sets-past}
 use Rattle.table.specs.Ids.{settingKind}
 use Rattle.command.specs.View.{sizeAt}
 use Rattle.command.specs.Effects.{idAt}
-use Rattle.command.proofs.Effects.{no-kind}
 use Rattle.settings.specs.Numbers.{numbers, numberOf}
 use Rattle.settings.specs.Output.{longest, Output, isBuilt, putOne, emitOne, emitEach, emitChanged}
 use Rattle.draft.specs.declared.Draft.{Draft}
 use Rattle.draft.specs.Drafts.{Drafted, outputOf, afterCommand, CanWork, CanTake}
-use Rattle.draft.proofs.Taking.{setting-number, group-size, single-size, took-setting}
+use Rattle.draft.proofs.Taking.{setting-number, took-setting}
 
 -- a buffer without words stays so
 module _ (l image latest : List ℕ) (more : ℕ) where
@@ -56,17 +54,8 @@ module _ (l image : List ℕ) (s : Drafted) (none : s .out ≡ []) (h : CanTake 
     has-kind : settingKind id ≡ 0 → ⊥
     has-kind e = eqb-false _ 0 (not-true _ (sym is ∙ t)) (ap settingKind (sym (ei ∙ ap idOf ew)) ∙ e)
 
-    own-size : n ≤ 4
-    own-size = elim (ℕ-discrete (settingKind id) 2) [
-      | yes e ↦ omega (arith, size-is, group-size l image s h w id (settingKind id) ew ei refl e)
-      | no f ↦ elim (ℕ-discrete (settingKind id) 1) [
-        | yes e ↦ omega (arith, size-is, single-size l image s h w id (settingKind id) ew ei refl e)
-        | no g ↦ absurd (has-kind (no-kind id f g))
-      ]
-    ]
-
-    pub can-set : (s .draft .at ≤ longest) × (n ≤ 4) × (numberOf id < 64)
-    can-set = (omega (arith, h .command .few, h .command .start), own-size, setting-number l image s h w id (settingKind id) ew ei refl has-kind)
+    pub can-set : (s .draft .at ≤ longest) × (n ≤ longest) × (numberOf id < 64)
+    can-set = (omega (arith, h .command .few, h .command .start), omega (arith, size-is, h .command .few, h .command .inside), setting-number l image s h w id (settingKind id) ew ei refl has-kind)
 
     pub counted-setting : (d : Draft) (latest : List ℕ)
         → d ≡ record { at = s .draft .at + n; written = s .draft .written; changed = bitOr (s .draft .changed) (2 ^ numberOf id) }
