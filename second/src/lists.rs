@@ -10,8 +10,8 @@ use crate::prng::{self, Prng};
 use crate::rules::{self, IMAGE_WORDS, RECORD_WORDS};
 
 pub use fixed::{fixed_cases, fixed_sample};
-pub use pairs::random_pairs;
-pub use random::{equivalent_list, random_case};
+pub use pairs::{pairs as pairs_of, random_pairs};
+pub use random::{any_list, any_refused_list, equivalent_list, random_case};
 
 #[derive(Clone)]
 pub struct Case {

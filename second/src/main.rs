@@ -1,5 +1,5 @@
-//! A second implementation of document 01, with Tickets 1 to 4 of document 02, to compare with the
-//! proved one.
+//! A second implementation of document 01, with Tickets 1 to 4 of document 02, and of the tool, to
+//! compare with the proved one.
 
 mod agreement;
 mod compare;
@@ -12,6 +12,8 @@ mod prng;
 #[cfg(feature = "proved")]
 mod proved;
 mod rules;
+mod runs;
+mod scene;
 mod self_test;
 mod vary;
 mod vectors;
@@ -26,12 +28,15 @@ usage: second self-test          check the rules against the paper's cases and d
        second count N [SEED]     count the verdicts on N lists
        second compare N [SEED]   compare with the proved library on N lists (feature `proved`)
        second case K [SEED]      print case K and what the rules give for it
-       second mutants FOLDER     show which stored case sees each change of the rules; the
-                                 crates' stored files are in FOLDER
+       second mutants FOLDER [NAME]   show which stored case sees each change of the rules, or each
+                                 whose name begins with NAME; the crates' stored files are in FOLDER
        second vectors-crate FOLDER    write stdin and stdout of the crate `vectors`
        second listings FOLDER    write inputs and outputs of the listing program
        second listings-crate FOLDER   write stdin and stdout of the crate `listings`
        second listing            print the listing of standard input
+       second runs FOLDER        write files for the tool, and what it says and writes for them
+       second runs-crate FOLDER  write stdin and stdout of the crate `runs`
+       second scene FOLDER       write a scene for the tool
 ";
 
 const USAGE_STATUS: u8 = 2;
@@ -52,14 +57,17 @@ fn run(words: &[&str]) -> io::Result<ExitCode> {
     match words {
         ["self-test"] => self_test(),
         ["vectors-crate", folder] => vectors::write_crate(Path::new(folder))?,
-        ["mutants", crates] => {
-            if !mutants::report(Path::new(crates))? {
+        ["mutants", crates, front @ ..] if front.len() <= 1 => {
+            if !mutants::report(Path::new(crates), front.first().unwrap_or(&""))? {
                 return Ok(ExitCode::FAILURE);
             }
         }
         ["listings", folder] => listings::write(Path::new(folder))?,
         ["listings-crate", folder] => listings::write_crate(Path::new(folder))?,
         ["listing"] => listing()?,
+        ["runs", folder] => runs::write(Path::new(folder))?,
+        ["runs-crate", folder] => runs::write_crate(Path::new(folder))?,
+        ["scene", folder] => scene::write(Path::new(folder))?,
         [command, number, seed @ ..] if seed.len() <= 1 => {
             let seed = seed.first().unwrap_or(&"1").parse();
             let (Ok(number), Ok(seed)) = (number.parse(), seed) else {

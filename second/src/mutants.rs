@@ -5,28 +5,34 @@ mod clashes;
 mod effects;
 mod equivalent;
 mod orders;
+mod runs;
 mod stored;
 mod thresholds;
 
 use crate::listings;
-use crate::lists::{self, Case};
+use crate::lists::{self, Case, Purpose};
 use crate::outcome::{self, Function};
 use crate::rules;
+use crate::runs as tool_runs;
 use changes::Mutant;
 use std::io;
 use std::path::Path;
 use std::thread;
-use stored::{Seen, Stored};
+use stored::{By, Seen, Stored};
 
 /// Random cases on which the changes that no list can show are run.
 const RANDOM_CASES: usize = 100_000;
+/// Random runs for such changes of the tool.
+const RANDOM_RUNS: u64 = 20_000;
 
-/// Prints what sees each change; true when each is seen or named with a reason, and none is both.
-pub fn report(crates: &Path) -> io::Result<bool> {
+/// Prints what sees each change, or each whose name begins with `front`; true when each is seen or named
+/// with a reason, and none is both.
+pub fn report(crates: &Path, front: &str) -> io::Result<bool> {
     let stored = Stored::read(crates)?;
     let mut tally = Tally::default();
     let (mut named, mut missed) = (Vec::new(), Vec::new());
-    for mutant in changes::all() {
+    let mutants = changes::all().into_iter().filter(|mutant| mutant.name.starts_with(front));
+    for mutant in mutants {
         let reason = equivalent::reason(&mutant.name);
         match (stored.first_to_see(&mutant), reason) {
             (Some(seen), None) => tally.add(&mutant, &seen),
@@ -45,7 +51,9 @@ pub fn report(crates: &Path) -> io::Result<bool> {
     tally.named = named.len();
     tally.missed = missed.len();
     tally.named_and_shown = run_at_length(&named);
-    tally.unused_reasons = equivalent::unused(&named);
+    if front.is_empty() {
+        tally.unused_reasons = equivalent::unused(&named);
+    }
     run_at_length(&missed);
     for mutant in &missed {
         println!("not seen: {}", mutant.name);
@@ -57,6 +65,7 @@ pub fn report(crates: &Path) -> io::Result<bool> {
 struct Tally {
     by_vectors: usize,
     by_listings: usize,
+    by_runs: usize,
     named: usize,
     named_and_seen: usize,
     named_and_shown: usize,
@@ -67,9 +76,10 @@ struct Tally {
 impl Tally {
     fn add(&mut self, mutant: &Mutant, seen: &Seen) {
         println!("{}: {}", mutant.name, seen.text);
-        match seen.by_vectors {
-            true => self.by_vectors += 1,
-            false => self.by_listings += 1,
+        match seen.by {
+            By::Vectors => self.by_vectors += 1,
+            By::Listings => self.by_listings += 1,
+            By::Runs => self.by_runs += 1,
         }
     }
 
@@ -81,10 +91,12 @@ impl Tally {
 
     /// True when all is as it has to be.
     fn print(&self) -> bool {
-        let Tally { by_vectors, by_listings, named, missed, .. } = self;
-        let seen = by_vectors + by_listings;
+        let Tally { by_vectors, by_listings, by_runs, named, missed, .. } = self;
+        let seen = by_vectors + by_listings + by_runs;
         println!("\n{} changes", seen + named + missed);
-        println!("{seen} seen: {by_vectors} by vectors, {by_listings} by listings");
+        println!(
+            "{seen} seen: {by_vectors} by vectors, {by_listings} by listings, {by_runs} by runs"
+        );
         println!("{named} that no list can show, each named with its reason");
         let faults = [
             (*missed, "not seen"),
@@ -100,16 +112,38 @@ impl Tally {
 /// Runs changes on the fixed cases and many random ones, half of the changes on each of two threads;
 /// how many of them some case shows.
 fn run_at_length(mutants: &[Mutant]) -> usize {
+    let of_tool: Vec<&Mutant> = mutants.iter().filter(|mutant| mutant.is_of_tool()).collect();
+    let mutants: Vec<&Mutant> = mutants.iter().filter(|mutant| !mutant.is_of_tool()).collect();
     let fixed = lists::fixed_cases();
     let (first, second) = mutants.split_at(mutants.len() / 2);
     thread::scope(|scope| {
         let first = scope.spawn(|| shown(first, &fixed));
-        shown(second, &fixed) + first.join().expect("the changes run")
+        let of_rules = shown(second, &fixed) + first.join().expect("the changes run");
+        of_rules + shown_by_runs(&of_tool)
     })
 }
 
-fn shown(mutants: &[Mutant], fixed: &[Case]) -> usize {
-    let mut open: Vec<&Mutant> = mutants.iter().collect();
+fn shown_by_runs(mutants: &[&Mutant]) -> usize {
+    let random = (0..RANDOM_RUNS).map(|number| tool_runs::random_run(1000 + number, Purpose::Run));
+    let mut open = mutants.to_vec();
+    for case in tool_runs::more_runs().into_iter().chain(random) {
+        if open.is_empty() {
+            break;
+        }
+        let expected = case.expected();
+        open.retain(|mutant| {
+            let other = stored::other_run(mutant, &case, &expected);
+            if let Some(difference) = &other {
+                println!("{}: shown by {difference}", mutant.name);
+            }
+            other.is_none()
+        });
+    }
+    mutants.len() - open.len()
+}
+
+fn shown(mutants: &[&Mutant], fixed: &[Case]) -> usize {
+    let mut open = mutants.to_vec();
     for index in 0..fixed.len() + RANDOM_CASES {
         if open.is_empty() {
             break;

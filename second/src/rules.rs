@@ -1,6 +1,6 @@
 //! Reading, normalising and listing by document 01, with PCI writes by Ticket 1 of document 02, the
 //! bit and the clashes told by Ticket 2, the page thresholds by Ticket 3, and the form's length told
-//! by Ticket 4.
+//! by Ticket 4; and what the tool says and writes, by its own paper.
 //!
 //! What the documents fix stands in `document` as a value of `Rules`; here is what they say to do
 //! with it. Nothing may panic for a `Rules` with one part changed, so that `mutants` can run it.
@@ -12,6 +12,7 @@ mod listing;
 mod measure;
 mod pci;
 mod shape;
+mod tool;
 
 use std::ops::Range;
 use std::sync::LazyLock;
@@ -19,6 +20,7 @@ use std::sync::LazyLock;
 pub use document::{Terms, IMAGE_WORDS, MAX_LIST_WORDS, NO_BIT, RECORD_WORDS};
 pub use language::{Address, Comparison, Facts, Field, Mask, Set, Test, Value};
 pub use shape::*;
+pub use tool::{words_of, Ids, Name, Names, Piece, RefusalRow, RefusalRows, Run, Task};
 
 static PAPER: LazyLock<Rules> = LazyLock::new(Rules::paper);
 

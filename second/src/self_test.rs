@@ -7,10 +7,11 @@ use crate::lists::{self, Case, Purpose};
 use crate::outcome::{self, prefilled, Function};
 use crate::paper::{self, Expected, PaperCase};
 use crate::prng::Prng;
-use crate::rules::{self, Answer, Refusal, IMAGE_WORDS, NO_BIT, RECORD_WORDS};
+use crate::rules::{self, Answer, Refusal, Task, IMAGE_WORDS, NO_BIT, RECORD_WORDS};
+use crate::runs;
 
 /// Each panics when it fails.
-pub const CHECKS: [(&str, fn()); 11] = [
+pub const CHECKS: [(&str, fn()); 13] = [
     ("cases of document 01", paper_cases),
     ("the guide's writes", guide_writes),
     ("page thresholds", page_thresholds),
@@ -22,6 +23,8 @@ pub const CHECKS: [(&str, fn()); 11] = [
     ("demand 3", demand_3),
     ("equal doings, equal forms", equal_doings),
     ("pairs and back", pairs_and_back),
+    ("the tool's texts", tool_texts),
+    ("the tool and the functions", tool_and_functions),
 ];
 
 const RANDOM_LISTS: u64 = 20_000;
@@ -83,6 +86,118 @@ fn listings() {
     let clip = |word| rules::paper().listing(&bytes(&[0x84000000, 0, word, 0]));
     assert_eq!(clip(0x40004000), "at id words head\naccepted commands 1 items 0\n");
     assert_eq!(clip(0x30004000), "refused 16 at 0\n");
+}
+
+/// Texts written out by hand from the tool's paper.
+fn tool_texts() {
+    let zeros = bytes(&[0; IMAGE_WORDS]);
+    let text = |task, words: &[u32]| rules::paper().run(task, &bytes(words), &zeros).text;
+    let shown = "\
+accepted commands 5 items 4
+sets: id name before -> after
+02 timer threshold 00000000 -> 00000010
+draws: at id words head name
+1 00 1 000300 flush
+2 48 4 000000 primitive
+6 21 1 000100 surface 0 base
+7 10 4 100007 BEGIN 3D
+words 11 normal form 11
+";
+    assert_eq!(text(Task::Show, &paper::LISTING_WORDS), shown);
+    let group = "\
+accepted commands 1 items 0
+sets: id name before -> after
+84 window clip 00000000 00000000 00000000 00000000 -> 00000001 00000000 40004000 00000000
+draws: at id words head name
+words 4 normal form 4
+";
+    assert_eq!(text(Task::Show, &[0x84000001, 0, 0x40004000, 0]), group);
+    let undefined = "\
+refused 6 at 3
+word 80c00000
+command 88 raster mode at 1
+bit 22
+why undefined bit set - the bit that the answer names, the lowest one: it must be zero
+";
+    let list = [0x00000300, 0x88000000, 0, 0x80C00000, 0];
+    for task in [Task::Show, Task::Image, Task::Normalise, Task::Pci] {
+        assert_eq!(text(task, &list), undefined);
+    }
+    let unknown = "\
+refused 3 at 0
+word 06000000
+command 06 at 0
+why unknown id - bits 31..24 of that word; often the command before has a wrong length
+";
+    assert_eq!(text(Task::Show, &[0x06000000]), unknown);
+    let misplaced = "\
+refused 13 at 2
+address 00002928
+word 00000000
+command 48 primitive at 1
+why PCI writes only: not the address that the command asks for - the address; often a value is missing or \
+the command before has a wrong length
+";
+    let pairs = [0x2804, 0x01000004, 0x2920, 0x48000000, 0x2928, 0, 0x2928, 0, 0x292C, 0];
+    assert_eq!(text(Task::List, &pairs), misplaced);
+    let no_image = "\
+refused 2 at 0
+image 1025 bytes
+why the image has not 256 words - the caller's image, not the list
+";
+    assert_eq!(rules::paper().run(Task::Pci, &[], &[0; 1025]).text, no_image);
+    let cut = "\
+refused 12 at 1
+why programs only: bytes no multiple of four - the file was cut, or is no list
+";
+    assert_eq!(rules::paper().run(Task::List, &[0; 7], &[]).text, cut);
+    let written = rules::paper().run(Task::Pci, &bytes(&[0x01000004]), &zeros);
+    assert_eq!(written.text, "accepted commands 1 items 1\nwritten 2 words\n");
+    assert_eq!(written.words, bytes(&[0x2804, 0x01000004]));
+    let left = rules::paper().run(Task::Image, &bytes(&[0x02000010]), &zeros);
+    assert_eq!(left.text, "accepted commands 1 items 0\nwritten 256 words\n");
+    assert_eq!(left.words[..12], bytes(&[0, 0, 0x10]));
+}
+
+/// The tool gives the verdict of the function whose words it writes, and those words.
+fn tool_and_functions() {
+    for number in 0..RANDOM_LISTS {
+        let case = runs::random_run(5000 + number, Purpose::Store);
+        let function = match case.task {
+            Task::Show | Task::Image => Function::Reader,
+            Task::Normalise => Function::Normaliser,
+            Task::Pci => Function::ToPci,
+            Task::List => Function::FromPci,
+        };
+        let [list, image] = [&case.input, &case.image].map(|bytes| {
+            let words = bytes.chunks_exact(4);
+            words.map(|b| u32::from_le_bytes([b[0], b[1], b[2], b[3]])).collect::<Vec<u32>>()
+        });
+        let room = 4 * list.len() + 8;
+        let of_function = Case {
+            class: "the tool's",
+            list,
+            image: lists::Image::Words(image),
+            records_len: room,
+            out_len: room,
+            pci_len: room,
+        };
+        let outcome = outcome::of(function, rules::paper(), &of_function);
+        let [verdict, position, commands, records, words, _] = outcome.answer;
+        let run = case.expected();
+        if verdict != 0 {
+            assert!(run.text.starts_with(&format!("refused {verdict} at {position}\n")));
+            assert!(run.words.is_empty());
+            continue;
+        }
+        assert!(run.text.starts_with(&format!("accepted commands {commands} items {records}\n")));
+        let written = match case.task {
+            Task::Show => &[][..],
+            Task::Image => &outcome.image,
+            _ => &outcome.buffer[..words as usize],
+        };
+        assert_eq!(run.words, bytes(written), "{}", case.name);
+    }
 }
 
 /// A refusal changes nothing; after acceptance the words behind those written are as before.
@@ -395,5 +510,15 @@ mod tests {
     #[test]
     fn equal_doings() {
         super::equal_doings();
+    }
+
+    #[test]
+    fn tool_texts() {
+        super::tool_texts();
+    }
+
+    #[test]
+    fn tool_and_functions() {
+        super::tool_and_functions();
     }
 }

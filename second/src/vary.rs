@@ -5,6 +5,7 @@
 
 mod language;
 mod shape;
+mod tool;
 
 pub type Variants<T> = Vec<(String, T)>;
 

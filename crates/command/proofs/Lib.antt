@@ -1,3 +1,4 @@
 pub mod Decoding
+pub mod Sized
 pub mod Effects
 pub mod Standing

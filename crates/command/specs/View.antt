@@ -26,6 +26,12 @@ pub record OwnAt (l : List ℕ) (at : ℕ) : Type 0 where
   pub inside : at < length l
   pub group : groupId (idOf (getD l at 0)) ≡ true → at + 4 ≤ length l
 
+-- a command's words, as far as the words of a list go
+pub record Sized (l : List ℕ) (at n : ℕ) : Type 0 where
+  pub exact : at + n ≤ length l → n ≡ sizeAt l at
+  pub beyond : length l < at + n → length l < at + sizeAt l at
+  pub some : 0 < n
+
 abbrev pub refusedAt : ℕ → ℕ → Decoded′
 refusedAt n p = Refused (refusal n p)
 

@@ -1,5 +1,5 @@
--- The words of some bytes (document 01, "The listing").
-use Prim.Native.Nat.{ℕ, _+_, _*_}
+-- The words of some bytes (document 01, "The listing"), and the bytes of some words.
+use Prim.Native.Nat.{ℕ, _+_, _*_, _/_, _%_}
 use mathlib.Core.List.{List, [], _∷_, _++_}
 
 -- what is made of each chunk of four numbers, one behind the other; fewer at the end are left out
@@ -16,3 +16,11 @@ littleEndian a b c d = a + b * 0x100 + c * 0x10000 + d * 0x1000000
 
 unfoldable pub wordsOf : List ℕ → List ℕ
 wordsOf input = chunks (λ a b c d. littleEndian a b c d ∷ []) input
+
+-- a word's bytes, low first
+abbrev pub wordBytes : ℕ → List ℕ
+wordBytes w = w % 0x100 ∷ w / 0x100 % 0x100 ∷ w / 0x10000 % 0x100 ∷ w / 0x1000000 % 0x100 ∷ []
+
+unfoldable pub bytesOf : List ℕ → List ℕ
+bytesOf [] = []
+bytesOf (w ∷ ws) = wordBytes w ++ bytesOf ws

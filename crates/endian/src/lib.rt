@@ -1,7 +1,9 @@
-// The little-endian words of some bytes.
+// The little-endian words of some bytes, and the bytes of some words.
 ghost use mathlib.Core.Path.{_≡_};
+ghost use Prim.Native.Nat.{_+_, _*_, _≤_};
+ghost use lib.ListN.{length};
 ghost use lib.Seq.{sets};
-ghost use Rattle.endian.specs.Words.{littleEndian, wordsOf};
+ghost use Rattle.endian.specs.Words.{littleEndian, wordsOf, wordBytes, bytesOf};
 
 fn little_endian(a: u8, b: u8, c: u8, d: u8) -> u32
     ensures { λ r. ⌜ r ≡ littleEndian a b c d ⌝ }
@@ -21,6 +23,28 @@ pub fn load(input: &[u8], words: &mut [u32])
         if i < words.len() {
             words[i] = word;
         }
+        i += 1;
+    }
+}
+
+fn store_word(out: &mut [u8], at: usize, word: u32)
+    requires { ⌜ at + 4 ≤ length (now out) ⌝ }
+    ensures { λ _. ⌜ now (out .exit) ≡ sets (now (out .entry)) at (wordBytes word) ⌝ }
+{
+    out[at] = (word % 0x100) as u8;
+    out[at + 1] = (word / 0x100 % 0x100) as u8;
+    out[at + 2] = (word / 0x10000 % 0x100) as u8;
+    out[at + 3] = (word / 0x1000000 % 0x100) as u8;
+}
+
+// The bytes of some words go to the front of `out`.
+pub fn store(words: &[u32], out: &mut [u8])
+    requires { ⌜ 4 * length (now words) ≤ length (now out) ⌝ }
+    ensures { λ _. ⌜ now (out .exit) ≡ sets (now (out .entry)) 0 (bytesOf (now (words .entry))) ⌝ }
+{
+    let mut i = 0;
+    while i < words.len() {
+        store_word(out, 4 * i, words[i]);
         i += 1;
     }
 }

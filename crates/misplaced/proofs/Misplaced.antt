@@ -12,20 +12,16 @@ use borrow.Author.Tests.{eqb-true, eq-eqb, ltb-true, ltb-false}
 use lib.ListN.{length, getD, drop}
 use Rattle.rules.specs.Word.{idOf, headerOf}
 use Rattle.rules.specs.Table.{Row, rowOf}
-use Rattle.rules.specs.Command.{payload, sizeOf, commandSize}
+use Rattle.rules.specs.Command.{sizeOf, commandSize}
 use Rattle.rules.specs.Values.{refusal}
 use Rattle.rules.specs.Form.{read}
 use Rattle.rules.specs.Pci.{address, values, Inside, further, ended, expecting, misplaced, outside}
 use Rattle.theory.proofs.Bools.{and-left, and-right}
 use Rattle.theory.proofs.Pci.{between, expected, expecting-none}
-use Rattle.table.specs.declared.Group.{Group}
-use Rattle.table.specs.Ids.{groupId}
-use Rattle.table.specs.Tables.{more, groupAt}
-use Rattle.command.specs.View.{sizeAt}
-use Rattle.command.proofs.Decoding.{size-group, size-least, size-single}
+use Rattle.command.specs.View.{sizeAt, Sized}
 use Rattle.pairs.specs.View.{addresses}
 use Rattle.placed.specs.View.{placed}
-use Rattle.misplaced.specs.View.{behind, misplacedFrom, Sized, Leading}
+use Rattle.misplaced.specs.View.{behind, misplacedFrom, Leading}
 
 -- ---- the pairs from a number on
 
@@ -41,20 +37,6 @@ behind-values ps zero = refl
 behind-values [] (suc at) = refl
 behind-values (a ∷ []) (suc at) = refl
 behind-values (a ∷ v ∷ ps) (suc at) = behind-values ps at
-
--- ---- sizes
-
-module _ (l : List ℕ) (at id : ℕ) (ei : id ≡ idOf (getD l at 0)) (small : id < 256) where
-  pub sized-single : groupId id ≡ false → at < length l → Sized l at 1
-  sized-single g h = record { exact = λ f. sym (size-single l at id ei small g); beyond = λ f. absurd (omega arith); some = omega arith }
-
-  pub sized-cut : groupId id ≡ true → length l < at + 4 → Sized l at 4
-  sized-cut g h = record { exact = λ f. absurd (omega arith); beyond = λ f. omega (arith, size-least l at id ei small g); some = omega arith }
-
-  pub sized-group : groupId id ≡ true → at + 4 ≤ length l → (g : Group) → g ≡ groupAt l at → (n : ℕ) → n ≡ payload id (g .header) (more g) → Sized l at (4 + n)
-  sized-group t h g eg n en =
-      let e : 4 + n ≡ sizeAt l at = ap (λ (x : ℕ). 4 + x) (en ∙ ap (λ (x : Group). payload id (x .header) (more x)) eg) ∙ sym (size-group l at id ei small t h) in
-      record { exact = λ f. e; beyond = λ f. omega (arith, e); some = omega arith }
 
 -- ---- where pairs are expected
 

@@ -9,7 +9,6 @@ use lib.ListN.{length, getD}
 use Rattle.rules.specs.declared.Refusal.{Refusal}
 use Rattle.rules.specs.Form.{read}
 use Rattle.rules.specs.Pci.{address, values, misplaced, outside}
-use Rattle.command.specs.View.{sizeAt}
 use Rattle.pairs.specs.View.{addresses}
 use Rattle.placed.specs.View.{placed}
 
@@ -23,12 +22,6 @@ behind (suc n) (a ∷ v ∷ ps) = behind n ps
 abbrev pub orElse : Option Refusal → Refusal → Refusal
 orElse (some f) g = f
 orElse none g = g
-
--- a command's words, as far as the words of a list go
-pub record Sized (l : List ℕ) (at n : ℕ) : Type 0 where
-  pub exact : at + n ≤ length l → n ≡ sizeAt l at
-  pub beyond : length l < at + n → length l < at + sizeAt l at
-  pub some : 0 < n
 
 -- r of a command's pairs, from its first on, are there and in place, and the next is not
 pub record Leading (ps : List ℕ) (at words id r : ℕ) : Type 0 where

@@ -5,7 +5,8 @@ ghost use mathlib.Core.Path.{_≡_};
 ghost use Prim.Native.Nat.{_<_};
 ghost use lib.ListN.{length};
 ghost use Rattle.rules.specs.Pci.{values, misplaced, outside};
-ghost use Rattle.misplaced.specs.View.{behind, orElse, Sized, Leading};
+ghost use Rattle.command.specs.View.{Sized};
+ghost use Rattle.misplaced.specs.View.{behind, orElse, Leading};
 
 // The words of the command at a pair; of a group that is cut its own words, which are too many already.
 fn size_at(pairs: &[u32], at: usize) -> usize

@@ -113,7 +113,7 @@ fn check(pairs: &[u32], image: &[u32]) -> Walked
 }
 
 // The list that pairs carry.
-fn write_values(pairs: &[u32], list: &mut [u32])
+pub fn write_values(pairs: &[u32], list: &mut [u32])
     requires { ⌜ length (values (now pairs)) ≤ length (now list) ⌝ }
     ensures { λ _. ⌜ now (list .exit) ≡ sets (now (list .entry)) 0 (values (now (pairs .entry))) ⌝ }
 {

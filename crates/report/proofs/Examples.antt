@@ -10,10 +10,10 @@ use Rattle.rules.specs.Walk.{outOfOrder, orderAfter, step, walk, parse}
 use Rattle.rules.specs.Answer.{reading}
 use Rattle.endian.specs.Words.{wordsOf}
 use Rattle.text.specs.Text.{hex, decimal}
-use Rattle.report.specs.Lines.{line, twoNumbers}
+use Rattle.format.specs.Format.{formatted}
 use Rattle.report.specs.Listing.{readBytes, listed}
 use Rattle.report.specs.Examples.{every, examples}
 
 pub examples-hold : every examples ≡ true
-unfolding every examples readBytes wordsOf listed line twoNumbers hex decimal reading parse walk step decode decodeRow faults undefined payload outOfOrder orderAfter rowOf table isBase
+unfolding every examples readBytes wordsOf listed formatted hex decimal reading parse walk step decode decodeRow faults undefined payload outOfOrder orderAfter rowOf table isBase
 examples-hold = refl

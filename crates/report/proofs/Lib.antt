@@ -1,4 +1,3 @@
-pub mod Lines
 pub mod Sizes
 pub mod Printed
 pub mod Examples

@@ -1,41 +1,31 @@
 -- The listing, from what the parts of the program give.
-use Prim.Native.Nat.{ℕ, _+_, _/_, _%_, _^_, _≤_, _<_}
+use Prim.Native.Nat.{ℕ, _+_, _/_, _%_, _≤_, _<_}
 use native.Mathlib.Omega.{arith}
 use mathlib.Core.Path.{_≡_, ap, ap₂}
 use mathlib.Core.List.{List, _++_}
 use borrow.Author.Tests.{lt-ltb, le-ltb, eq-eqb, ne-eqb}
-use lib.ListN.{length, length-append}
+use lib.ListN.{length}
 use lib.Seq.{sets}
 use Rattle.rules.specs.declared.Answer.{Answer}
 use Rattle.rules.specs.Answer.{Outcome, reading}
 use Rattle.endian.specs.Words.{chunks, wordsOf}
 use Rattle.text.specs.Text.{ascii}
-use Rattle.text.specs.Puts.{Puts, Bounded}
-use Rattle.report.specs.Lines.{line, twoNumbers}
+use Rattle.text.specs.Puts.{Puts}
+use Rattle.lines.specs.Lines.{line, countsLine, refusedLine}
 use Rattle.report.specs.Listing.{readBytes, wordsRead, listed, textOf, Printed, printed}
 use Rattle.report.specs.Prints.{Prints}
 use Rattle.report.proofs.Sizes.{printed-length}
 
 module _ (a : Answer) (ws : List ℕ) where
-  pub listed-refused : (a .verdict ≡ 0 → ⊥) → listed a ws ≡ twoNumbers (ascii "refused ") (a .verdict) (ascii " at ") (a .position)
+  pub listed-refused : (a .verdict ≡ 0 → ⊥) → listed a ws ≡ refusedLine (a .verdict) (a .position)
   unfolding listed
   listed-refused h = rw (ne-eqb (a .verdict) 0 h)
 
   pub listed-accepted : a .verdict ≡ 0
       → listed a ws ≡ ascii "at id words head\n"
-      ++ (chunks line ws ++ twoNumbers (ascii "accepted commands ") (a .commands) (ascii " items ") (a .records))
+      ++ (chunks line ws ++ countsLine (a .commands) (a .records))
   unfolding listed
   listed-accepted h = rw (eq-eqb (a .verdict) 0 h)
-
-  pub listed-bound : a .verdict ≡ 0 → Bounded 0 (listed a ws)
-      → 17 + (length (chunks line ws) + length (twoNumbers (ascii "accepted commands ") (a .commands) (ascii " items ") (a .records))) < 2 ^ 64
-  listed-bound e b =
-      omega (
-        arith,
-        b .bound,
-        ap length (listed-accepted e),
-        length-append (chunks line ws) (twoNumbers (ascii "accepted commands ") (a .commands) (ascii " items ") (a .records)),
-      )
 
 pub listed-is : {o p : Outcome} {t u : List ℕ} {n : ℕ} → o ≡ p → Puts (textOf o) t 0 u n → Prints p (o .image) (o .buffer) t u n
 listed-is e h = record { image-is = ap (λ (x : Outcome). x .image) e; records-is = ap (λ (x : Outcome). x .buffer) e; puts = rw e at h }
@@ -47,13 +37,13 @@ module _ (input words image records text : List ℕ) where
   refused-is p =
       ap₂ {C = Printed} (λ k t. record { size = k; words = words; image = image; records = records; text = t }) (omega (arith, p .next-is)) (p .text-is)
 
-  pub printed-over : {u : List ℕ} {n : ℕ} → 16384 < length input → Puts (twoNumbers (ascii "refused ") 1 (ascii " at ") 4096) text 0 u n
+  pub printed-over : {u : List ℕ} {n : ℕ} → 16384 < length input → Puts (refusedLine 1 4096) text 0 u n
       → record { size = n; words = words; image = image; records = records; text = u } ≡ printed input words image records text
   unfolding printed readBytes wordsRead listed
   printed-over h p = rw (lt-ltb 16384 (length input) h) (refused-is p)
 
   pub printed-uneven : {u : List ℕ} {n : ℕ} → length input ≤ 16384 → (length input % 4 ≡ 0 → ⊥)
-      → Puts (twoNumbers (ascii "refused ") 12 (ascii " at ") (length input / 4)) text 0 u n
+      → Puts (refusedLine 12 (length input / 4)) text 0 u n
       → record { size = n; words = words; image = image; records = records; text = u } ≡ printed input words image records text
   unfolding printed readBytes wordsRead listed
   printed-uneven h g p = rw (le-ltb 16384 (length input) h, ne-eqb (length input % 4) 0 g) (refused-is p)

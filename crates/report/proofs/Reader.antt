@@ -17,7 +17,7 @@ use Rattle.theory.proofs.Verdict.{reads, written-accept}
 use Rattle.theory.proofs.Parse.{parse-accepted}
 use Rattle.endian.specs.Words.{chunks, wordsOf}
 use Rattle.text.specs.Text.{ascii}
-use Rattle.report.specs.Lines.{line, twoNumbers}
+use Rattle.lines.specs.Lines.{line, countsLine, refusedLine}
 use Rattle.report.specs.Listing.{readBytes, textOf}
 use Rattle.report.proofs.Printed.{listed-refused, listed-accepted}
 
@@ -35,7 +35,7 @@ module _ (input image buffer : List ℕ) (few : length input ≤ 16384) (even : 
   read-is = rw (le-ltb 16384 (length input) few, eq-eqb (length input % 4) 0 even)
 
   pub refused-text : (f : Refusal) → parse image (wordsOf input) ≡ refused f
-      → textOf (readBytes input image buffer) ≡ twoNumbers (ascii "refused ") (f .number) (ascii " at ") (f .word)
+      → textOf (readBytes input image buffer) ≡ refusedLine (f .number) (f .word)
   unfolding reading
   refused-text f e =
       let p : Proper 4098 f = rw e at (parse-refuses image (wordsOf input)) in
@@ -43,7 +43,7 @@ module _ (input image buffer : List ℕ) (few : length input ≤ 16384) (even : 
 
   pub accepted-text : (cs : List Command) → parse image (wordsOf input) ≡ accepted cs → 16384 ≤ length buffer
       → textOf (readBytes input image buffer) ≡ ascii "at id words head\n"
-      ++ (recordLines (records 0 cs) ++ twoNumbers (ascii "accepted commands ") (length cs) (ascii " items ") (length (records 0 cs)))
+      ++ (recordLines (records 0 cs) ++ countsLine (length cs) (length (records 0 cs)))
   accepted-text cs e h =
       let ws : List ℕ = wordsOf input in
       let a = parse-accepted image ws cs e in

@@ -1,50 +1,30 @@
 -- How much the reader writes, and how long a listing can be.
 use Prim.Native.Nat.{ℕ, suc, _+_, _*_, _/_, _%_, _≤_}
 use native.Mathlib.Omega.{arith}
-use mathlib.Core.Path.{_≡_, refl, ap}
+use mathlib.Core.Path.{_≡_, ap}
 use mathlib.Core.Bool.{Bool, true, false, cond}
 use mathlib.Core.List.{List, [], _∷_, _++_}
 use lib.Dec.{eqb, ltb}
-use lib.ListN.{length, drop, length-append}
+use lib.ListN.{length, length-append}
 use Rattle.rules.specs.declared.Answer.{Answer}
 use Rattle.rules.specs.declared.Refusal.{Refusal}
 use Rattle.rules.specs.Values.{refusal}
 use Rattle.rules.specs.Table.{isSetting}
 use Rattle.rules.specs.Command.{Command, words, wordsAll}
-use Rattle.rules.specs.Walk.{Parsed, refused, accepted, parse}
+use Rattle.rules.specs.Walk.{accepted, parse}
 use Rattle.rules.specs.Image.{final}
 use Rattle.rules.specs.Records.{Record, records, recordWords}
-use Rattle.rules.specs.Answer.{Outcome, refuse, accept, fitting, room, readParsed, reading}
+use Rattle.rules.specs.Answer.{Outcome, refuse, accept, reading}
 use Rattle.theory.proofs.Verdict.{written-accept}
+use Rattle.theory.proofs.Reading.{reading-cases}
 use Rattle.theory.proofs.Parse.{parse-accepted}
 use Rattle.endian.specs.Words.{chunks, wordsOf}
 use Rattle.text.specs.Text.{ascii}
 use Rattle.text.specs.Puts.{Bounded}
 use Rattle.text.proofs.Numbers.{length-cond}
-use Rattle.report.specs.Lines.{line, twoNumbers}
+use Rattle.lines.specs.Lines.{line, countsLine, refusedLine}
 use Rattle.report.specs.Listing.{readBytes, listed, textOf, printed}
-use Rattle.report.proofs.Lines.{two-length, line-length}
-
-module _ (ws image buffer : List ℕ) where
-  -- what holds of each refusal, and of each acceptance
-  reading-cases : (P : Outcome → Type 0) → ((f : Refusal) → P (refuse f image buffer))
-      → ((cs : List Command) → parse image ws ≡ accepted cs → P (accept ws cs (recordWords (records 0 cs)) (final image cs) buffer))
-      → P (reading ws image buffer)
-  unfolding reading
-  reading-cases P refusals acceptances = by-parsed (parse image ws) refl
-    where
-      by-room : (small : Bool) (done : Outcome) → P done → P (fitting small ws image buffer done)
-      by-room true done h = refusals (refusal 11 (length ws))
-      by-room false done h = h
-
-      by-parsed : (x : Parsed) → parse image ws ≡ x → P (readParsed ws image buffer x)
-      by-parsed (refused f) e = refusals f
-      by-parsed (accepted cs) e = by-room (ltb (room buffer) (length (records 0 cs))) _ (acceptances cs e)
-
-  -- the words written are in the buffer
-  pub reading-words : (o : Outcome) → o ≡ reading ws image buffer → o .answer .words ≤ length (o .buffer)
-  reading-words o e = rw e (reading-cases (λ p. p .answer .words ≤ length (p .buffer)) (λ f. omega arith)
-      (λ cs a. let out : List ℕ = recordWords (records 0 cs) in omega (arith, length-append out (drop (length out) buffer))))
+use Rattle.lines.proofs.Lengths.{counts-length, refused-length, line-length}
 
 -- ---- the text
 
@@ -66,10 +46,10 @@ lines-length p (c ∷ cs) h =
 listed-length : (a : Answer) (ws : List ℕ) (m : ℕ) → length (chunks line ws) ≤ m → length (listed a ws) ≤ 83 + m
 unfolding listed
 listed-length a ws m h =
-    let counts : List ℕ = twoNumbers (ascii "accepted commands ") (a .commands) (ascii " items ") (a .records) in
-    length-cond (eqb (a .verdict) 0) (ascii "at id words head\n" ++ (chunks line ws ++ counts)) (twoNumbers (ascii "refused ") (a .verdict) (ascii " at ") (a .position)) (83 + m)
-    (omega (arith, length-append (chunks line ws) counts, two-length (ascii "accepted commands ") (ascii " items ") (a .commands) (a .records)))
-    (omega (arith, two-length (ascii "refused ") (ascii " at ") (a .verdict) (a .position)))
+    let counts : List ℕ = countsLine (a .commands) (a .records) in
+    length-cond (eqb (a .verdict) 0) (ascii "at id words head\n" ++ (chunks line ws ++ counts)) (refusedLine (a .verdict) (a .position)) (83 + m)
+    (omega (arith, length-append (chunks line ws) counts, counts-length (a .commands) (a .records)))
+    (omega (arith, refused-length (a .verdict) (a .position)))
 
 refuse-length : (f : Refusal) (image buffer : List ℕ) → length (textOf (refuse f image buffer)) ≤ 82003
 refuse-length f image buffer = omega (arith, listed-length (refuse f image buffer .answer) [] 0 (omega arith))

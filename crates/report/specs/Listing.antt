@@ -10,7 +10,7 @@ use Rattle.rules.specs.Values.{refusal}
 use Rattle.rules.specs.Answer.{Outcome, refuse, reading, written}
 use Rattle.endian.specs.Words.{chunks, wordsOf}
 use Rattle.text.specs.Text.{ascii}
-use Rattle.report.specs.Lines.{line, twoNumbers}
+use Rattle.lines.specs.Lines.{line, countsLine, refusedLine}
 
 -- "Over 16,384 bytes is refusal 1, ahead of 12; 12 comes before any command is read." 12 is "bytes not a multiple of
 -- four".
@@ -33,8 +33,8 @@ unfoldable pub listed : Answer → List ℕ → List ℕ
 listed a ws =
     cond (eqb (a .verdict) 0)
     (ascii "at id words head\n"
-    ++ (chunks line ws ++ twoNumbers (ascii "accepted commands ") (a .commands) (ascii " items ") (a .records)))
-    (twoNumbers (ascii "refused ") (a .verdict) (ascii " at ") (a .position))
+    ++ (chunks line ws ++ countsLine (a .commands) (a .records)))
+    (refusedLine (a .verdict) (a .position))
 
 -- the whole text of a listing
 abbrev pub textOf : Outcome → List ℕ

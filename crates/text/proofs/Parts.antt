@@ -2,12 +2,12 @@
 use Prim.Native.Nat.{ℕ, _+_, _≤_, _<_}
 use native.Mathlib.Omega.{arith}
 use native.Mathlib.Numerals.{add-one}
-use mathlib.Core.Path.{_≡_, ap, ap₂, sym, _∙_}
+use mathlib.Core.Path.{_≡_, refl, ap, ap₂, sym, _∙_}
 use mathlib.Core.List.{List, [], _∷_, _++_}
 use lib.ListN.{length, getD, take, length-append}
 use lib.Seq.{sets, take-suc, length-sets, length-take-le, take-all}
 use Rattle.theory.proofs.Image.{sets-append}
-use Rattle.text.specs.Puts.{Puts}
+use Rattle.text.specs.Puts.{Puts, Bounded}
 
 -- two parts are one
 pub puts-then : {p q t u v : List ℕ} {at m n : ℕ} → Puts p t at u m → Puts q u m v n → Puts (p ++ q) t at v n
@@ -31,3 +31,13 @@ puts-all bs t at i h l e =
 
 pub puts-length : {p t u : List ℕ} {at n : ℕ} → Puts p t at u n → length u ≡ length t
 puts-length {p} {t} {u} {at} a = ap length (a .text-is) ∙ length-sets t at p
+
+pub puts-none : {p t : List ℕ} {at : ℕ} → p ≡ [] → Puts p t at t at
+puts-none e = rw e (record { next-is = omega arith; text-is = refl })
+
+-- what comes first of a part that has room, and what comes behind it, has room
+pub bounded-first : {at : ℕ} (p q : List ℕ) → Bounded at (p ++ q) → Bounded at p
+bounded-first p q b = record { bound = omega (arith, b .bound, length-append p q) }
+
+pub bounded-then : {t u : List ℕ} {at n : ℕ} (p q : List ℕ) → Bounded at (p ++ q) → Puts p t at u n → Bounded n q
+bounded-then p q b a = record { bound = omega (arith, b .bound, length-append p q, a .next-is) }

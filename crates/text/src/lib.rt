@@ -6,7 +6,7 @@ ghost use Prim.Native.Nat.{_<_};
 ghost use Rattle.text.specs.Text.{digit, hex, decimal};
 ghost use Rattle.text.specs.Puts.{Puts, Bounded};
 
-fn put(text: &mut [u8], at: usize, byte: u8) -> usize
+pub fn put(text: &mut [u8], at: usize, byte: u8) -> usize
     requires { ⌜ Bounded at (byte ∷ []) ⌝ }
     ensures { λ r. ⌜ Puts (byte ∷ []) (now (text .entry)) at (now (text .exit)) r ⌝ }
 {
@@ -28,7 +28,7 @@ pub fn put_all(text: &mut [u8], at: usize, bytes: &[u8]) -> usize
     at + i
 }
 
-fn digit(d: usize) -> u8
+pub fn digit(d: usize) -> u8
     requires { ⌜ d < 16 ⌝ }
     ensures { λ r. ⌜ r ≡ digit d ⌝ }
 {

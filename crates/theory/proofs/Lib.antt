@@ -9,6 +9,7 @@ pub mod Numbers
 pub mod Bits
 pub mod Verdict
 pub mod Records
+pub mod Reading
 pub mod Outcomes
 pub mod Pci
 pub mod Demands

@@ -12,7 +12,7 @@ const FLUSH: u32 = 0x00000001;
 const TIMER: u32 = 0x02000010;
 
 /// The pairs of a list's words, by its structure alone.
-fn pairs(list: &[u32]) -> Vec<u32> {
+pub fn pairs(list: &[u32]) -> Vec<u32> {
     pairs_at(list, &rules::paper().from_pci.addresses)
 }
 

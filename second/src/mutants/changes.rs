@@ -1,10 +1,11 @@
 //! All the changes: of each part of the rules, of orders, of the clashes' numbers, of single page
-//! thresholds, of answers and lent words.
+//! thresholds, of answers and lent words, of the tool's runs.
 
-use super::{clashes, effects, orders, thresholds};
+use super::{clashes, effects, orders, runs, thresholds};
 use crate::lists::Case;
 use crate::outcome::{self, Function, Outcome};
-use crate::rules::{self, Rules, Terms};
+use crate::rules::{self, Rules, Run, Terms};
+use crate::runs::RunCase;
 use crate::vary::Vary;
 
 pub struct Mutant {
@@ -12,12 +13,15 @@ pub struct Mutant {
     change: Change,
     /// The function that the change is in, where it is one alone.
     function: Option<Function>,
+    /// The change is in what only the tool does.
+    of_tool: bool,
 }
 
 enum Change {
     Rules(Box<Rules>),
     Outcome(Box<OutcomeChange>),
     Listing(Box<ListingChange>),
+    Run(Box<RunChange>),
 }
 
 /// What the documents give for a case, changed.
@@ -26,17 +30,21 @@ pub type OutcomeChange = dyn Fn(Function, &Case, Outcome) -> Outcome + Sync;
 /// The text for an input, made otherwise.
 pub type ListingChange = dyn Fn(&[u8]) -> String + Sync;
 
+/// What the tool's paper gives for a run, changed.
+pub type RunChange = dyn Fn(&RunCase, Run) -> Run + Sync;
+
 impl Mutant {
     pub fn of_rules(name: String, rules: Rules) -> Mutant {
         let function = changed_alone(&rules);
-        Mutant { name, change: Change::Rules(Box::new(rules)), function }
+        let of_tool = Rules { tool: rules.tool.clone(), ..Rules::paper() } == rules;
+        Mutant { name, change: Change::Rules(Box::new(rules)), function, of_tool }
     }
 
     pub fn of_outcome(
         name: String,
         change: impl Fn(Function, &Case, Outcome) -> Outcome + Sync + 'static,
     ) -> Mutant {
-        Mutant { name, change: Change::Outcome(Box::new(change)), function: None }
+        Mutant { name, change: Change::Outcome(Box::new(change)), function: None, of_tool: false }
     }
 
     pub fn of_outcome_of(
@@ -45,16 +53,22 @@ impl Mutant {
         change: impl Fn(&Case, Outcome) -> Outcome + Sync + 'static,
     ) -> Mutant {
         let change = move |_, case: &Case, outcome| change(case, outcome);
-        Mutant { name, change: Change::Outcome(Box::new(change)), function: Some(function) }
+        let change = Change::Outcome(Box::new(change));
+        Mutant { name, change, function: Some(function), of_tool: false }
     }
 
     pub fn of_listing(name: &str, change: impl Fn(&[u8]) -> String + Sync + 'static) -> Mutant {
-        Mutant { name: name.into(), change: Change::Listing(Box::new(change)), function: None }
+        let change = Change::Listing(Box::new(change));
+        Mutant { name: name.into(), change, function: None, of_tool: false }
+    }
+
+    pub fn of_run(name: String, change: impl Fn(&RunCase, Run) -> Run + Sync + 'static) -> Mutant {
+        Mutant { name, change: Change::Run(Box::new(change)), function: None, of_tool: true }
     }
 
     /// The change may be in what the function gives.
     pub fn concerns(&self, function: Function) -> bool {
-        self.function.is_none_or(|alone| alone == function)
+        !self.of_tool && self.function.is_none_or(|alone| alone == function)
     }
 
     pub fn run(&self, function: Function, case: &Case) -> Outcome {
@@ -71,16 +85,29 @@ impl Mutant {
     pub fn listing(&self, input: &[u8]) -> String {
         match &self.change {
             Change::Rules(rules) => rules.listing(input),
-            Change::Outcome(_) => rules::paper().listing(input),
+            Change::Outcome(_) | Change::Run(_) => rules::paper().listing(input),
             Change::Listing(change) => change(input),
         }
+    }
+
+    /// What the tool says and writes; `expected` is by its paper.
+    pub fn tool_run(&self, case: &RunCase, expected: &Run) -> Run {
+        match &self.change {
+            Change::Rules(rules) => case.by(rules),
+            Change::Run(change) => change(case, expected.clone()),
+            Change::Outcome(_) | Change::Listing(_) => expected.clone(),
+        }
+    }
+
+    pub fn is_of_tool(&self) -> bool {
+        self.of_tool
     }
 
     /// The change is in what only the listing program does.
     pub fn is_of_listing(&self) -> bool {
         match &self.change {
             Change::Rules(rules) => rules.listing != rules::paper().listing,
-            Change::Outcome(_) => false,
+            Change::Outcome(_) | Change::Run(_) => false,
             Change::Listing(_) => true,
         }
     }
@@ -107,6 +134,7 @@ pub fn all() -> Vec<Mutant> {
     all.extend(clashes::all());
     all.extend(thresholds::all());
     all.extend(effects::all());
+    all.extend(runs::all());
     all
 }
 

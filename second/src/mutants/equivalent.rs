@@ -274,7 +274,39 @@ const REASONS: &[Reason] = &[
     ),
     (
         "every number has a digit, whether none or one is asked for",
-        &["listing: columns: *: least digits: 0, not 1"],
+        &[
+            "listing: columns: *: least digits: 0, not 1",
+            "tool: refused: *: least digits: 0, not 1",
+            "tool: accepted: *: least digits: 0, not 1",
+        ],
+    ),
+    (
+        "an image of fewer than 256 words is refused with 2 by the functions themselves",
+        &["tool: * sizes: verdict 2: when: test: Over, not NotEqual"],
+    ),
+    (
+        "at most 32,776 bytes of pairs are read, a multiple of four: 12 is not given for so many",
+        &["tool: pairs sizes: verdict 1: behind verdict 12"],
+    ),
+    (
+        "at most 16,385 bytes of a list are read: one that is too long has 4,096 whole words",
+        &["tool: list sizes: verdict 1: at ListLength"],
+    ),
+    (
+        "the tool gives neither 8 nor 11, and a refusal is none of acceptance",
+        &[
+            "tool: refused: *: verdicts: with 0",
+            "tool: refused: *: verdicts: with 8",
+            "tool: refused: *: verdicts: with B",
+        ],
+    ),
+    (
+        "pairs that are through have no command cut short: 5 and 9 are not given with an address",
+        &["tool: refused: 2: verdicts: without 5", "tool: refused: 2: verdicts: without 9"],
+    ),
+    (
+        "a refusal has the image's bytes or an address, and acceptance the form's words or those written",
+        &["tool: refused: 1: behind 2", "tool: accepted: 5: behind 6"],
     ),
 ];
 

@@ -1,10 +1,11 @@
-//! The stored cases of the gate: the files that the crates `vectors` and `listings` read.
+//! The stored cases of the gate: the files that the crates `vectors`, `listings` and `runs` read.
 
 use super::changes::Mutant;
 use crate::listings;
 use crate::lists::Case;
 use crate::outcome::{self, Function};
-use crate::rules;
+use crate::rules::{self, Run};
+use crate::runs::{self, RunCase};
 use crate::vectors::{self, Part};
 use std::fs;
 use std::io;
@@ -16,10 +17,18 @@ type Vector = (Case, [Part; Function::ALL.len()]);
 pub struct Stored {
     vectors: Vec<Vector>,
     listings: Vec<(&'static str, Vec<u8>)>,
+    runs: Vec<(RunCase, Run)>,
+}
+
+#[derive(Clone, Copy, Debug, PartialEq, Eq)]
+pub enum By {
+    Vectors,
+    Listings,
+    Runs,
 }
 
 pub struct Seen {
-    pub by_vectors: bool,
+    pub by: By,
     pub text: String,
 }
 
@@ -29,12 +38,15 @@ impl Stored {
         let stale = |what: &str| {
             io::Error::other(format!("the files of {what} are not those of {what}-crate"))
         };
-        for (name, (stdin, stdout)) in
-            [("vectors", vectors::crate_files()), ("listings", listings::crate_files())]
-        {
+        let as_bytes = |(stdin, stdout): (Vec<u8>, String)| (stdin, stdout.into_bytes());
+        for (name, (stdin, stdout)) in [
+            ("vectors", as_bytes(vectors::crate_files())),
+            ("listings", as_bytes(listings::crate_files())),
+            ("runs", runs::crate_files()),
+        ] {
             let folder = crates.join(name);
             if fs::read(folder.join("stdin"))? != stdin
-                || fs::read(folder.join("stdout"))? != stdout.as_bytes()
+                || fs::read(folder.join("stdout"))? != stdout
             {
                 return Err(stale(name));
             }
@@ -45,11 +57,20 @@ impl Stored {
             (case, parts)
         };
         let vectors = vectors::stored_cases().into_iter().map(of_case).collect();
-        Ok(Stored { vectors, listings: listings::stored_inputs() })
+        let with_expected = |case: RunCase| {
+            let expected = case.expected();
+            (case, expected)
+        };
+        let runs = runs::stored_runs().into_iter().map(with_expected).collect();
+        Ok(Stored { vectors, listings: listings::stored_inputs(), runs })
     }
 
-    /// The first case whose digest, or else the first input whose listing, isn't the stored one.
+    /// The first case whose digest, or else the first input whose listing, or else the first run whose
+    /// text and words aren't the stored ones.
     pub fn first_to_see(&self, mutant: &Mutant) -> Option<Seen> {
+        if mutant.is_of_tool() {
+            return self.first_run_to_see(mutant);
+        }
         let differs = |(_, (case, parts)): &(usize, &Vector)| {
             let mut changed = *parts;
             for function in Function::ALL.into_iter().filter(|f| mutant.concerns(*f)) {
@@ -60,13 +81,21 @@ impl Stored {
         if !mutant.is_of_listing() {
             if let Some((k, (case, _))) = self.vectors.iter().enumerate().find(differs) {
                 let text = format!("case {k}, {}: {}", described(case), difference(mutant, case));
-                return Some(Seen { by_vectors: true, text });
+                return Some(Seen { by: By::Vectors, text });
             }
         }
         let differs =
             |(_, input): &&(&str, Vec<u8>)| mutant.listing(input) != rules::paper().listing(input);
-        let (name, _) = self.listings.iter().find(differs)?;
-        Some(Seen { by_vectors: false, text: format!("listing {name}") })
+        if let Some((name, _)) = self.listings.iter().find(differs) {
+            return Some(Seen { by: By::Listings, text: format!("listing {name}") });
+        }
+        self.first_run_to_see(mutant)
+    }
+
+    fn first_run_to_see(&self, mutant: &Mutant) -> Option<Seen> {
+        let other = |(case, expected): &(RunCase, Run)| other_run(mutant, case, expected);
+        let text = self.runs.iter().find_map(other)?;
+        Some(Seen { by: By::Runs, text })
     }
 }
 
@@ -77,6 +106,23 @@ fn difference(mutant: &Mutant, case: &Case) -> String {
         outcome::difference(function, &mutant.run(function, case), &expected)
     };
     Function::ALL.into_iter().find_map(of).unwrap_or_default()
+}
+
+/// What the tool says or writes otherwise.
+pub fn other_run(mutant: &Mutant, case: &RunCase, expected: &Run) -> Option<String> {
+    let given = mutant.tool_run(case, expected);
+    let line = |text: &str, k: usize| text.lines().nth(k).unwrap_or("nothing").to_string();
+    let lines = expected.text.lines().count() + 1;
+    let differing = (0..lines).find(|&k| line(&given.text, k) != line(&expected.text, k));
+    let name = &case.name;
+    match differing {
+        _ if given == *expected => None,
+        Some(k) => {
+            let (given, expected) = (line(&given.text, k), line(&expected.text, k));
+            Some(format!("run {name}: {given:?}, not {expected:?}"))
+        }
+        None => Some(format!("run {name}: other words or line ends")),
+    }
 }
 
 /// The case's class and the first words of its list.

@@ -2,6 +2,7 @@
 
 use super::language::{Field, Mask, Quantity, Set, Test, Value};
 use super::shape::*;
+use super::tool::tool;
 use crate::vary::parts;
 
 pub const MAX_LIST_WORDS: usize = 4096;
@@ -96,6 +97,7 @@ impl Rules {
             listing: listing(),
             to_pci: to_pci(terms),
             from_pci: from_pci(terms),
+            tool: tool(),
         }
     }
 }

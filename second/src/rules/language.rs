@@ -85,7 +85,7 @@ choices! {
     /// Numbers known where a rule is tested, beside the command's own words; see `Facts`.
     pub enum Quantity {
         ListWords, ImageWords, WordsLeft, OwnWords, Length, Known, OnlyThroughPci, AfterBase,
-        IsBegin, Needed, Room, InputBytes, SpareBytes
+        IsBegin, Needed, Room, InputBytes, SpareBytes, ImageBytes
     }
 }
 
@@ -112,6 +112,7 @@ pub struct Facts<'a> {
     pub input_bytes: usize,
     /// Input bytes behind the last whole word.
     pub spare_bytes: usize,
+    pub image_bytes: usize,
     /// Of the command's pairs, as far as they are there.
     pub addresses: &'a [Address],
 }
@@ -144,6 +145,7 @@ impl Facts<'_> {
             Quantity::Room => self.room,
             Quantity::InputBytes => self.input_bytes,
             Quantity::SpareBytes => self.spare_bytes,
+            Quantity::ImageBytes => self.image_bytes,
         };
         number as u32
     }

@@ -1,7 +1,7 @@
 //! The text of the listing program.
 
 use super::document::{IMAGE_WORDS, MAX_LIST_WORDS, RECORD_WORDS};
-use super::{ByteOrder, Column, Digits, Facts, Listing, Refusal, Rules, OTHER_ID};
+use super::{words_of, Column, Facts, Listing, Refusal, Rules, OTHER_ID};
 
 impl Rules {
     /// What the listing program prints for its standard input.
@@ -18,7 +18,7 @@ impl Rules {
         let facts = Facts { input_bytes, spare_bytes, ..Facts::default() };
         self.pass(&self.listing.before_list, &OTHER_ID, 0, &facts)?;
 
-        let list = self.words_of(input);
+        let list = words_of(input, self.listing.byte_order);
         let mut image = [self.listing.starting_word; IMAGE_WORDS];
         // Room for a record from every word, so that 11 is never given.
         let mut records = vec![0; RECORD_WORDS * MAX_LIST_WORDS];
@@ -35,24 +35,11 @@ impl Rules {
         text += &format!("{accepted}{}{items}{}{line_end}", answer.commands, answer.records);
         Ok(text)
     }
-
-    fn words_of(&self, input: &[u8]) -> Vec<u32> {
-        let word = |b: &[u8]| match self.listing.byte_order {
-            ByteOrder::Little => u32::from_le_bytes([b[0], b[1], b[2], b[3]]),
-            ByteOrder::Big => u32::from_be_bytes([b[0], b[1], b[2], b[3]]),
-        };
-        input.chunks_exact(4).map(word).collect()
-    }
 }
 
 impl Column {
     fn text(&self, record: &[u32]) -> String {
         let number = record.get(self.word).copied().unwrap_or(0);
-        let width = self.least_digits;
-        match self.digits {
-            Digits::Decimal => format!("{number:0width$}"),
-            Digits::LowerHex => format!("{number:0width$x}"),
-            Digits::UpperHex => format!("{number:0width$X}"),
-        }
+        self.digits.text(number, self.least_digits)
     }
 }

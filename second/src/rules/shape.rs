@@ -2,11 +2,12 @@
 //! value by itself.
 
 use super::language::{Facts, Field, Mask, Set, Test};
+use super::tool::Tool;
 use crate::vary::{choices, parts};
 
 parts! {
-    /// The rules of reading, of the normal form and its length, of the listing and of the writes over
-    /// PCI.
+    /// The rules of reading, of the normal form and its length, of the listing, of the writes over PCI
+    /// and of the tool.
     pub struct Rules {
         pub id: Field,
         /// The header as the masks test it, and as the image holds it.
@@ -29,6 +30,7 @@ parts! {
         pub listing: Listing,
         pub to_pci: ToPci,
         pub from_pci: FromPci,
+        pub tool: Tool,
     }
 }
 

@@ -5,7 +5,7 @@ use borrow.Author.Tests.{not-true, not-false}
 use Rattle.rules.specs.Word.{idOf}
 use Rattle.command.proofs.Decoding.{payload-few}
 use Rattle.pairs.proofs.Pairs.{pair-count, id-small}
-use Rattle.misplaced.proofs.Misplaced.{sized-single, sized-cut, sized-group}
+use Rattle.command.proofs.Sized.{sized-single, sized-cut, sized-group}
 use borrow.Author.Needs.{needs}
 use Rattle.misplaced.proofs.size_at.Statement.{statement}
 use Rattle.misplaced.proofs.size_at.Tie as tie

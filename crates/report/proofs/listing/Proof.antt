@@ -11,10 +11,10 @@ use Rattle.report.proofs.listing.Statement.{statement}
 use Rattle.report.proofs.listing.Tie as tie
 
 returns : tie.Need-returns
-returns c = and-short _ _ _ _ _ (printed-over _ _ _ _ _ (c .before .before .before .before .if1 .taken) (c .before .before .put-refusal .ensures))
+returns c = and-short _ _ _ _ _ (printed-over _ _ _ _ _ (c .before .before .before .before .if1 .taken) (c .before .before .put-refused .ensures))
 
 returns-2 : tie.Need-returns-2
-returns-2 c = and-short _ _ _ _ _ (printed-uneven _ _ _ _ _ (c .before .before .before .before .before .if1 .left) (c .before .before .before .before .if2 .taken) (c .before .before .put-refusal2 .ensures))
+returns-2 c = and-short _ _ _ _ _ (printed-uneven _ _ _ _ _ (c .before .before .before .before .before .if1 .left) (c .before .before .before .before .if2 .taken) (c .before .before .put-refused2 .ensures))
 
 returns-3 : tie.Need-returns-3
 returns-3 c =

@@ -1,6 +1,7 @@
 use mathlib.Core.Path.{sym}
 use lib.Seq.{length-take-le}
-use Rattle.report.proofs.Sizes.{reading-words, reading-bounded}
+use Rattle.theory.proofs.Reading.{reading-words}
+use Rattle.report.proofs.Sizes.{reading-bounded}
 use Rattle.report.proofs.Printed.{listed-is}
 use borrow.Author.Needs.{needs}
 use Rattle.report.proofs.put_list.Statement.{statement}

@@ -1,0 +1,71 @@
+-- The command that a word stands in, found command by command.
+use Prim.Native.Nat.{ℕ, zero, suc, _+_, _-_, _≤_, _<_}
+use native.Mathlib.Omega.{arith}
+use mathlib.Core.Path.{_≡_, refl, _∙_}
+use mathlib.Core.Bool.{true, false, cond}
+use mathlib.Core.List.{List, [], _∷_}
+use lib.Dec.{eqb, ltb}
+use lib.ListN.{length, drop, length-drop}
+use lib.Seq.{drop-cons, drop-drop}
+use borrow.Author.Tests.{ltb-true, ltb-false, eq-eqb, ne-eqb, eqb-false}
+use Rattle.command.specs.View.{sizeAt, Sized}
+use Rattle.verdict.specs.Start.{startFrom, startOf}
+
+module _ (p : ℕ) where
+  -- inside the words of a command
+  inside : (first k at : ℕ) (ws : List ℕ) → at ≤ p → p < at + k → p < at + length ws → startFrom p first k at ws ≡ first
+  unfolding startFrom
+  inside first k at [] a b h = refl
+  inside first zero at (w ∷ ws) a b h = absurd (omega arith)
+  inside first (suc k) at (w ∷ ws) a b h =
+      (elim (eqb at p) as (λ t. eqb at p ≡ t → cond t first (startFrom p first k (suc at) ws) ≡ first) [
+        | true ↦ λ e. refl
+        | false ↦ λ e. inside first k (suc at) ws (omega (arith, eqb-false at p e)) (omega arith) (omega arith)
+      ]) refl
+
+  -- behind them
+  beyond : (first k at : ℕ) (ws : List ℕ) → at + k ≤ p → startFrom p first k at ws ≡ startFrom p first 0 (at + k) (drop k ws)
+  unfolding startFrom
+  beyond first zero at ws a = let e : at + 0 ≡ at = omega arith in rw e
+  beyond first (suc k) at [] a = refl
+  beyond first (suc k) at (w ∷ ws) a =
+      let e : suc at + k ≡ at + suc k = omega arith in
+      rw (ne-eqb at p (λ q. omega (arith, q)), ← e) (beyond first k (suc at) ws (omega arith))
+
+  -- where a command begins, no other is before it
+  begins : (f g at : ℕ) (ws : List ℕ) → (length ws ≡ 0 → ⊥) → startFrom p f 0 at ws ≡ startFrom p g 0 at ws
+  unfolding startFrom
+  begins f g at [] h = absurd (h refl)
+  begins f g at (w ∷ ws) h = refl
+
+  module _ (l : List ℕ) (at : ℕ) (h : p < length l) where
+    abbrev from : ℕ → ℕ
+    from i = startFrom p 0 0 i (drop i l)
+
+    pub start-here : at ≡ p → from at ≡ at
+    unfolding startFrom
+    start-here e = rw (drop-cons l at 0 (omega arith), eq-eqb at p e)
+
+    module _ (n : ℕ) (s : Sized l at n) (before : at < p) where
+      step : from at ≡ startFrom p at (sizeAt l at - 1) (suc at) (drop (suc at) l)
+      unfolding startFrom
+      step = rw (drop-cons l at 0 (omega arith), ne-eqb at p (λ q. omega (arith, q)))
+
+      size-reaches : p < at + n → p < at + sizeAt l at
+      size-reaches r =
+          (elim (ltb (length l) (at + n)) as (λ t. ltb (length l) (at + n) ≡ t → p < at + sizeAt l at) [
+            | true ↦ λ e. omega (arith, s .beyond (ltb-true (length l) (at + n) e))
+            | false ↦ λ e. omega (arith, s .exact (ltb-false (length l) (at + n) e))
+          ]) refl
+
+      pub start-inside : p - at < n → from at ≡ at
+      start-inside r =
+          step ∙ inside at (sizeAt l at - 1) (suc at) (drop (suc at) l) (omega arith) (omega (arith, size-reaches (omega arith)))
+          (omega (arith, length-drop (suc at) l))
+
+      pub start-beyond : n ≤ p - at → from at ≡ from (at + n)
+      start-beyond r =
+          let e : n ≡ sizeAt l at = s .exact (omega arith) in
+          let k : suc at + (sizeAt l at - 1) ≡ at + n = omega (arith, e, s .some) in
+          step ∙ beyond at (sizeAt l at - 1) (suc at) (drop (suc at) l) (omega (arith, k))
+          ∙ rw (drop-drop (sizeAt l at - 1) (suc at) l, k) (begins at 0 (at + n) (drop (at + n) l) (λ z. omega (arith, z, length-drop (at + n) l)))

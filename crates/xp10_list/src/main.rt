@@ -1,0 +1,4 @@
+// A test of the tool: pairs on standard input, and their list on standard output.
+fn main() {
+    tool::run();
+}
