@@ -23,7 +23,7 @@ use Rattle.names.specs.Names.{commands}
 use Rattle.lines.specs.Lines.{recordLine}
 use Rattle.lines.proofs.Lengths.{counts-length}
 use Rattle.verdict.proofs.Lengths.{names-narrow}
-use Rattle.show.specs.Show.{wordsText, settingLine, changeLine, changeLines, setsText, workLines, drawsText, wordsLine, acceptedText}
+use Rattle.show.specs.Show.{wordsText, settingLine, changeLine, changeLines, setsText, workLines, drawsText, acceptedText}
 use Rattle.show.specs.Changes.{idLines}
 
 -- the settings by their ids: those of one word stand before those of four

@@ -1,9 +1,9 @@
 -- What a list sets and draws, as text.
 use Prim.Native.Nat.{ℕ}
-use mathlib.Core.Bool.{Bool, cond}
+use mathlib.Core.Bool.{cond}
 use mathlib.Core.List.{List, [], _∷_, _++_}
 use lib.Dec.{eqb}
-use lib.ListN.{length, replicate}
+use lib.ListN.{replicate}
 use Rattle.rules.specs.declared.Answer.{Answer}
 use Rattle.rules.specs.Table.{Row, size, settings}
 use Rattle.rules.specs.Form.{read, equal}

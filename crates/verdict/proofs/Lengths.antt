@@ -1,9 +1,9 @@
 -- How long the lines of a refusal are.
-use Prim.Native.Nat.{ℕ, _+_, _*_, _/_, _%_, _≤_}
+use Prim.Native.Nat.{ℕ, _*_, _/_, _%_, _≤_}
 use native.Mathlib.Omega.{arith}
 use mathlib.Core.Path.{_≡_, refl}
-use mathlib.Core.Bool.{Bool, true, false, cond}
-use mathlib.Core.List.{List, [], _∷_, _++_}
+use mathlib.Core.Bool.{true, cond}
+use mathlib.Core.List.{List, [], _∷_}
 use lib.Dec.{eqb, ltb}
 use lib.ListN.{length, getD, length-append}
 use Rattle.rules.specs.declared.Answer.{Answer}
@@ -13,7 +13,7 @@ use Rattle.text.proofs.Numbers.{length-cond}
 use Rattle.format.specs.Format.{lineOf, formatted}
 use Rattle.format.proofs.Lengths.{narrow, row-length, formatted-length}
 use Rattle.names.specs.Names.{commands, refusals, refusalRow}
-use Rattle.lines.specs.Lines.{countsLine, refusedLine}
+use Rattle.lines.specs.Lines.{countsLine}
 use Rattle.lines.proofs.Lengths.{counts-length, refused-length}
 use Rattle.verdict.specs.Start.{startOf}
 use Rattle.verdict.specs.Verdict.{imageLine, addressLine, placeLines, bitLine, whyLine, refusalText, verdictText}

@@ -9,7 +9,7 @@ use lib.ListN.{length, drop, length-drop}
 use lib.Seq.{drop-cons, drop-drop}
 use borrow.Author.Tests.{ltb-true, ltb-false, eq-eqb, ne-eqb, eqb-false}
 use Rattle.command.specs.View.{sizeAt, Sized}
-use Rattle.verdict.specs.Start.{startFrom, startOf}
+use Rattle.verdict.specs.Start.{startFrom}
 
 module _ (p : ℕ) where
   -- inside the words of a command

@@ -1,6 +1,6 @@
 use native.Mathlib.Omega.{arith}
 use mathlib.Core.Path.{refl}
-use mathlib.Core.List.{[], append-nil}
+use mathlib.Core.List.{append-nil}
 use borrow.Author.Needs.{needs}
 use Rattle.show.specs.Show.{showText}
 use Rattle.desk.specs.Desk.{perform}

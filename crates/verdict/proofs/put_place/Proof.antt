@@ -1,11 +1,7 @@
-use mathlib.Core.Path.{_≡_, ap, _∙_}
-use lib.ListN.{getD}
 use borrow.Author.Needs.{needs}
 use borrow.Author.Tests.{lt-ltb, le-ltb}
 use native.Mathlib.Omega.{arith}
-use Rattle.rules.specs.Word.{idOf}
 use Rattle.text.proofs.Parts.{puts-none}
-use Rattle.verdict.specs.Start.{startOf}
 use Rattle.verdict.specs.Verdict.{placeLines}
 use Rattle.verdict.proofs.put_place.Statement.{statement}
 use Rattle.verdict.proofs.put_place.Tie as tie
