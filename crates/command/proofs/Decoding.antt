@@ -21,10 +21,9 @@ use Rattle.theory.proofs.Numbers.{faults-proper}
 use Rattle.table.specs.declared.Group.{Group}
 use Rattle.command.specs.declared.Decoded.the-variants.{Command, Refused}
 use Rattle.table.specs.Ids.{ofRow, isGroup, groupId}
-use Rattle.table.specs.Tables.{more, beginRow, rowNumber, rowTable, rowAt, rowMasks, groupAt}
-use Rattle.values.specs.First.{firstRefusal, found}
-use Rattle.faults.specs.Faults.{own, outside}
-use Rattle.values.specs.First.{none as noFault}
+use Rattle.table.specs.Tables.{more, beginRow, rowCount, rowNumber, rowTable, rowAt, maskAt, groupAt}
+use Rattle.values.specs.First.{noRefusal, firstRefusal, found}
+use Rattle.faults.specs.Faults.{own, anyUndefined}
 use Rattle.command.specs.View.{sizeAt, refusedAt, singleOf, groupOf, view, decodedAt, KnownAt}
 use Rattle.table.proofs.Tables.{Known, ruled, known, known-row, unknown-row, row-at}
 use Rattle.faults.proofs.FirstFault.{first-fault, first-near, faulty-is, single-fault}
@@ -112,7 +111,7 @@ module _ (l : List ℕ) (at id : ℕ) (ei : id ≡ idOf (getD l at 0)) (small : 
   -- ---- refusals
 
   -- 3 and 4
-  pub decoded-unknown : 16 ≤ rowNumber id → decodedAt l at ≡ refusedAt (unknown id) at
+  pub decoded-unknown : rowCount ≤ rowNumber id → decodedAt l at ≡ refusedAt (unknown id) at
   unfolding decodedAt decode
   decoded-unknown n =
       let e : rowOf (idOf (getD l at 0)) ≡ none = ap rowOf (sym ei) ∙ unknown-row id small n in
@@ -187,10 +186,10 @@ module _ (l : List ℕ) (at id : ℕ) (ei : id ≡ idOf (getD l at 0)) (small : 
 -- ---- which of the two a command is, by the table lent and the test on its id
 
 module _ (rows l : List ℕ) (at id : ℕ) (lent : rows ≡ rowTable) (inside : at < length l) (ei : id ≡ idOf (getD l at 0)) (small : id < 256) where
-  pub at-unknown : 16 ≤ getD rows id 0 → decodedAt l at ≡ refusedAt (unknown id) at
+  pub at-unknown : rowCount ≤ getD rows id 0 → decodedAt l at ≡ refusedAt (unknown id) at
   at-unknown n = decoded-unknown l at id ei small (omega (arith, row-at id small rows lent))
 
-  module _ (n : getD rows id 0 < 16) where
+  module _ (n : getD rows id 0 < rowCount) where
     pub at-known : KnownAt l at id (getD rows id 0)
     at-known = record { inside = inside; id-is = ei; row-is = row-at id small rows lent; known = n }
 
@@ -208,8 +207,8 @@ module _ (l : List ℕ) (at id row : ℕ) (a : KnownAt l at id row) (small : id 
   fits-one : at + cond (groupId id) 4 1 ≤ length l
   fits-one = rw single (omega (arith, a .inside))
 
-  module _ (header : ℕ) (m : Group) (b : Bool) (eh : header ≡ headerOf (getD l at 0)) (em : m ≡ rowMasks row) (eb : b ≡ undefined header (m .header)) where
-    by-bit : firstAt l at id (a .id-is) small k₁ fits-one ≡ cond b (undefinedBit 0 header (m .header)) noFault
+  module _ (header m : ℕ) (b : Bool) (eh : header ≡ headerOf (getD l at 0)) (em : m ≡ maskAt row 0) (eb : b ≡ undefined header m) where
+    by-bit : firstAt l at id (a .id-is) small k₁ fits-one ≡ cond b (undefinedBit 0 header m) noRefusal
     unfolding firstAt
     by-bit = rw (k₁ .length-more, single, eb, eh, em, a .row-is) (single-fault id (headerOf (getD l at 0)) k₁ single)
 
@@ -218,14 +217,14 @@ module _ (l : List ℕ) (at id row : ℕ) (a : KnownAt l at id row) (small : id 
         → decodedAt l at ≡ Refused (shift at f)
     unfolding firstAt
     decoded-single-bad t g f ef =
-        let found-it = ap found (by-bit ∙ ap (λ (x : Bool). cond x (undefinedBit 0 header (m .header)) noFault) t) in
+        let found-it = ap found (by-bit ∙ ap (λ (x : Bool). cond x (undefinedBit 0 header m) noRefusal) t) in
         decoded-fault l at id (a .id-is) small k₁ fits-one found-it ∙ rw (ef, eh, k₁ .length-more, single)
 
     pub decoded-single : b ≡ false → decodedAt l at ≡ singleOf row
     decoded-single t =
         let one = size-single l at id (a .id-is) small single in
         let begin : isBegin (rowAt id .kind) ≡ false = rw single at (k₁ .apart) in
-        decoded-command l at id (a .id-is) small k₁ fits-one (ap found (by-bit ∙ ap (λ (x : Bool). cond x (undefinedBit 0 header (m .header)) noFault) t)) (omega (arith, a .inside))
+        decoded-command l at id (a .id-is) small k₁ fits-one (ap found (by-bit ∙ ap (λ (x : Bool). cond x (undefinedBit 0 header m) noRefusal) t)) (omega (arith, a .inside))
         ∙ rw (one, begin, k₁ .base, k₁ .setting-row, single, a .row-is)
 
 -- ---- a command of four
@@ -235,12 +234,12 @@ module _ (l : List ℕ) (at id row : ℕ) (a : KnownAt l at id row) (small : id 
   k₄ = known id small (omega (arith, a .row-is, a .known))
 
   -- 5
-  pub group-cut : length l - at < 4 → decodedAt l at ≡ refusedAt 5 at
-  group-cut c = decoded-cut l at id (a .id-is) small k₄ (a .inside) (rw group c)
+  pub group-cut : length l < at + 4 → decodedAt l at ≡ refusedAt 5 at
+  group-cut c = decoded-cut l at id (a .id-is) small k₄ (a .inside) (rw group (omega (arith, a .inside)))
 
-  module _ (four : 4 ≤ length l - at) (g : Group) (eg : g ≡ groupAt l at) where
+  module _ (four : at + 4 ≤ length l) (g : Group) (eg : g ≡ groupAt l at) where
     fits-four : at + cond (groupId id) 4 1 ≤ length l
-    fits-four = rw group (omega (arith, a .inside))
+    fits-four = rw group four
 
     first-is : firstRefusal (faults (rowAt id) (g .header) (own (rowAt id) g)) ≡ firstAt l at id (a .id-is) small k₄ fits-four
     unfolding firstAt
@@ -253,37 +252,37 @@ module _ (l : List ℕ) (at id row : ℕ) (a : KnownAt l at id row) (small : id 
         decoded-fault l at id (a .id-is) small k₄ fits-four (ap found (sym first-is) ∙ t) ∙ ap (λ (x : Refusal). Refused (shift at x)) (sym (ef ∙ first-is))
 
     -- the two tests of the code
-    tests : {b v : Bool} → b ≡ outside g (rowMasks row) → v ≡ found (firstRefusal (valueFaults id (g .header) (more g)))
+    tests : {b v : Bool} → b ≡ anyUndefined row g → v ≡ found (firstRefusal (valueFaults id (g .header) (more g)))
         → b || v ≡ found (firstRefusal (faults (rowAt id) (g .header) (own (rowAt id) g)))
     tests eb ev = rw (eb, ev, a .row-is) (faulty-is id g k₄)
 
-    pub undefined-fault : {b : Bool} → b ≡ outside g (rowMasks row) → b ≡ true
+    pub undefined-fault : {b : Bool} → b ≡ anyUndefined row g → b ≡ true
         → (f : Refusal) → f ≡ firstRefusal (faults (rowAt id) (g .header) (own (rowAt id) g)) → decodedAt l at ≡ Refused (shift at f)
     undefined-fault eb t = group-fault (sym (tests eb refl) ∙ rw t)
 
     pub value-fault : {v : Bool} → v ≡ found (firstRefusal (valueFaults id (g .header) (more g))) → v ≡ true
         → (f : Refusal) → f ≡ firstRefusal (faults (rowAt id) (g .header) (own (rowAt id) g)) → decodedAt l at ≡ Refused (shift at f)
-    value-fault ev t = group-fault (sym (tests refl ev) ∙ rw t (or-true (outside g (rowMasks row))))
+    value-fault ev t = group-fault (sym (tests refl ev) ∙ rw t (or-true (anyUndefined row g)))
 
-    pub group-clear : {b v : Bool} → b ≡ outside g (rowMasks row) → b ≡ false → v ≡ found (firstRefusal (valueFaults id (g .header) (more g))) → v ≡ false
+    pub group-clear : {b v : Bool} → b ≡ anyUndefined row g → b ≡ false → v ≡ found (firstRefusal (valueFaults id (g .header) (more g))) → v ≡ false
         → found (firstRefusal (faults (rowAt id) (g .header) (own (rowAt id) g))) ≡ false
     group-clear eb t ev u = sym (tests eb ev) ∙ rw (t, u)
 
-    module _ (none : found (firstRefusal (faults (rowAt id) (g .header) (own (rowAt id) g))) ≡ false)
+    module _ (faultless : found (firstRefusal (faults (rowAt id) (g .header) (own (rowAt id) g))) ≡ false)
         (n : ℕ) (en : n ≡ payload id (g .header) (more g)) where
       clear : found (firstAt l at id (a .id-is) small k₄ fits-four) ≡ false
-      clear = ap found (sym first-is) ∙ none
+      clear = ap found (sym first-is) ∙ faultless
 
       size-is : sizeAt l at ≡ 4 + n
       size-is =
-          size-group l at id (a .id-is) small group (omega (arith, a .inside))
+          size-group l at id (a .id-is) small group four
           ∙ ap (λ (x : ℕ). 4 + x) (sym (en ∙ ap (λ (x : Group). payload id (x .header) (more x)) eg))
 
       -- 9
-      pub group-short : length l - at < 4 + n → decodedAt l at ≡ refusedAt 9 at
-      group-short c = decoded-short l at id (a .id-is) small k₄ fits-four clear (omega (arith, size-is))
+      pub group-short : length l < at + (4 + n) → decodedAt l at ≡ refusedAt 9 at
+      group-short c = decoded-short l at id (a .id-is) small k₄ fits-four clear (omega (arith, size-is, a .inside))
 
-      pub group-done : 4 + n ≤ length l - at → decodedAt l at ≡ groupOf (4 + n) row
+      pub group-done : at + (4 + n) ≤ length l → decodedAt l at ≡ groupOf (4 + n) row
       group-done c =
           let base : isBase id ≡ false = rw group at (k₄ .apart) in
           decoded-command l at id (a .id-is) small k₄ fits-four clear (omega (arith, size-is)) ∙ rw (size-is, base, k₄ .begins, k₄ .setting-row, group, a .row-is)

@@ -50,6 +50,20 @@ pub no-kind : (id : ℕ) → (settingKind id ≡ 2 → ⊥) → (settingKind id 
 unfolding settingKind
 no-kind id p q = kind-else (settingId id) (groupId id) p q
 
+kind-member : (s g : Bool) → s ≡ true → (number s g ≡ 2 → ⊥) → number s g ≡ 1
+kind-member true true e p = absurd (p refl)
+kind-member true false e p = refl
+kind-member false g e p = let z : _≡_ {A = Bool} false true = e in let y : _≡_ {A = ℕ} 0 1 = cc in absurd (omega arith)
+
+-- by membership
+pub single-member : (id : ℕ) → settingId id ≡ true → (settingKind id ≡ 2 → ⊥) → settingKind id ≡ 1
+unfolding settingKind
+single-member id e p = kind-member (settingId id) (groupId id) e p
+
+pub no-member : (id : ℕ) → settingId id ≡ false → settingKind id ≡ 0
+unfolding settingKind
+no-member id e = rw e
+
 -- ---- at a position
 
 module _ (l : List ℕ) (at : ℕ) (h : CommandAt l at) where
@@ -85,12 +99,12 @@ module _ (l : List ℕ) (at : ℕ) (h : CommandAt l at) where
     pub size : sizeAt l at ≡ 4
     pub fits : idAt l at + 4 ≤ 256
     pub inside : at + 4 ≤ length l
-    pub no-record : recordAt l at ≡ []
     pub image-is : (image : List ℕ) → apply (commandAt l at) image ≡ sets image (idAt l at) (headerAt l at ∷ more (groupAt l at))
 
-  no-record : Setting (rowAt id) → recordAt l at ≡ []
+  -- "Settings give none."
+  pub no-record : settingId (idAt l at) ≡ true → recordAt l at ≡ []
   unfolding commandAt
-  no-record s = rw (s .kind)
+  no-record e = rw (setting-row e .kind)
 
   pub is-group : settingKind (idAt l at) ≡ 2 → IsGroup
   unfolding settingKind
@@ -100,18 +114,16 @@ module _ (l : List ℕ) (at : ℕ) (h : CommandAt l at) where
       let n : length (rowAt id .more) ≡ 3 = k .length-more ∙ ap (λ (b : Bool). cond b 3 0) (p .1) in
       let inside′ = own-at .group (p .1) in
       let size′ : sizeAt l at ≡ 4 + payload id (headerAt l at) (more (groupAt l at)) = size-group l at id refl (h .small) (p .1) inside′ in
-      let none : payload (rowAt id .id) (headerAt l at) (more (groupAt l at)) ≡ 0 = setting-payload (rowAt id) s (headerAt l at) (more (groupAt l at)) in
+      let no-payload : payload (rowAt id .id) (headerAt l at) (more (groupAt l at)) ≡ 0 = setting-payload (rowAt id) s (headerAt l at) (more (groupAt l at)) in
       record {
-        size = size′ ∙ ap (λ (i : ℕ). 4 + payload i (headerAt l at) (more (groupAt l at))) (sym (k .own-id)) ∙ ap (λ (m : ℕ). 4 + m) none;
+        size = size′ ∙ ap (λ (i : ℕ). 4 + payload i (headerAt l at) (more (groupAt l at))) (sym (k .own-id)) ∙ ap (λ (m : ℕ). 4 + m) no-payload;
         fits = omega (arith, setting-fits _ s, k .own-id);
         inside = inside′;
-        no-record = no-record s;
         image-is = λ image. setting-is s image (more (groupAt l at)) n (group-words l at inside′);
       }
 
   pub record IsSingle : Type 0 where
     pub size : sizeAt l at ≡ 1
-    pub no-record : recordAt l at ≡ []
     pub image-is : (image : List ℕ) → apply (commandAt l at) image ≡ set image (idAt l at) (headerAt l at)
 
   pub is-single : settingKind (idAt l at) ≡ 1 → IsSingle
@@ -120,7 +132,7 @@ module _ (l : List ℕ) (at : ℕ) (h : CommandAt l at) where
       let p = kind-one (settingId id) (groupId id) e in
       let s = setting-row (p .0) in
       let n : length (rowAt id .more) ≡ 0 = k .length-more ∙ ap (λ (b : Bool). cond b 3 0) (p .1) in
-      record { size = size-single l at id refl (h .small) (p .1); no-record = no-record s; image-is = λ image. setting-is s image [] n refl }
+      record { size = size-single l at id refl (h .small) (p .1); image-is = λ image. setting-is s image [] n refl }
 
   -- ---- work
 

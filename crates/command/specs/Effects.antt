@@ -5,7 +5,7 @@ use lib.ListN.{length, getD, take, drop}
 use Rattle.rules.specs.Word.{idOf, headerOf}
 use Rattle.rules.specs.Command.{Command, restSize}
 use Rattle.rules.specs.Records.{records, recordWords}
-use Rattle.table.specs.Tables.{rowNumber, rowAt}
+use Rattle.table.specs.Tables.{rowCount, rowNumber, rowAt}
 use Rattle.command.specs.View.{sizeAt}
 
 abbrev pub idAt : List ℕ → ℕ → ℕ
@@ -28,7 +28,7 @@ pub record CommandAt (l : List ℕ) (at : ℕ) : Type 0 where
   pub few : length l ≤ 4096
   pub start : at < length l
   pub small : idAt l at < 256
-  pub known : rowNumber (idAt l at) < 16
+  pub known : rowNumber (idAt l at) < rowCount
   pub inside : at + sizeAt l at ≤ length l
 
 -- the words of its record, none for a setting

@@ -15,7 +15,7 @@ use Rattle.command.specs.declared.Command.{Command as Kept}
 use Rattle.command.specs.declared.Decoded.{Decoded as Decoded′}
 use Rattle.command.specs.declared.Decoded.the-variants.{Command, Refused}
 use Rattle.table.specs.Ids.{groupId}
-use Rattle.table.specs.Tables.{baseRow, timerRow, beginRow, clipRow, rowNumber}
+use Rattle.table.specs.Tables.{baseRow, timerRow, beginRow, clipRow, rowCount, rowNumber}
 
 -- the words of the command at a position, payload included
 abbrev pub sizeAt : List ℕ → ℕ → ℕ
@@ -60,4 +60,4 @@ pub record KnownAt (l : List ℕ) (at id row : ℕ) : Type 0 where
   pub inside : at < length l
   pub id-is : id ≡ idOf (getD l at 0)
   pub row-is : row ≡ rowNumber id
-  pub known : row < 16
+  pub known : row < rowCount

@@ -1,4 +1,5 @@
 // One command of a list: its size, and its decoding.
+use masks::Masks;
 use rules::NO_BIT;
 use rules::Refusal;
 use table::Group;
@@ -10,7 +11,7 @@ ghost use Rattle.rules.specs.Command.{payload};
 ghost use Rattle.rules.specs.Values.{shift};
 ghost use Rattle.rules.specs.Decode.{unknown};
 ghost use Rattle.table.specs.Ids.{groupId};
-ghost use Rattle.table.specs.Tables.{more, groupAt};
+ghost use Rattle.table.specs.Tables.{maskTable, more, groupAt};
 ghost use Rattle.command.specs.declared.Decoded.the-variants as decoded;
 ghost use Rattle.command.specs.View.{sizeAt, OwnAt, decodedAt, refusedAt, singleOf, groupOf, KnownAt};
 
@@ -123,13 +124,12 @@ pub fn group_command(words: usize, row: u8) -> Decoded
 }
 
 // A command of one word: refusal 6.
-pub fn decode_single(list: &[u32], at: usize, id: u8, row: u8) -> Decoded
-    requires { ⌜ KnownAt (now list) at id row × (groupId id ≡ false) ⌝ }
+pub fn decode_single(masks: &Masks, list: &[u32], at: usize, id: u8, row: u8) -> Decoded
+    requires { ⌜ KnownAt (now list) at id row × (groupId id ≡ false) × (now masks ≡ maskTable) ⌝ }
     ensures { λ r. ⌜ r ≡ decodedAt (now (list .entry)) at ⌝ }
 {
-    let m = masks::masks_of(row);
     let header = words::header_of(words::fetch(list, at));
-    if faults::undefined(header, m.header) {
+    if faults::undefined(header, masks::mask(masks, row, 0)) {
         return refused_fault(at, faults::first_fault(row, id, header, 0, 0, 0));
     }
     single_command(row)
@@ -137,15 +137,15 @@ pub fn decode_single(list: &[u32], at: usize, id: u8, row: u8) -> Decoded
 
 // A command of four words and its payload: refusals 5, 6, 7, 15 to 19 and 9. Only where there is payload is the list's end
 // looked for again.
-pub fn decode_group(list: &[u32], at: usize, id: u8, row: u8) -> Decoded
-    requires { ⌜ KnownAt (now list) at id row × (groupId id ≡ true) ⌝ }
+pub fn decode_group(masks: &Masks, list: &[u32], at: usize, id: u8, row: u8) -> Decoded
+    requires { ⌜ KnownAt (now list) at id row × (groupId id ≡ true) × (now masks ≡ maskTable) ⌝ }
     ensures { λ r. ⌜ r ≡ decodedAt (now (list .entry)) at ⌝ }
 {
-    if list.len() - at < 4 {
+    if list.len() < at + 4 {
         return refused(5, at);
     }
     let g = group_at(list, at);
-    if faults::undefined_bits(row, g) {
+    if faults::undefined_bits(masks, row, g) {
         return refused_fault(
             at,
             faults::first_fault(row, id, g.header, g.second, g.third, g.fourth),
@@ -159,7 +159,7 @@ pub fn decode_group(list: &[u32], at: usize, id: u8, row: u8) -> Decoded
     }
     let more = payload(id, g);
     if 0 < more {
-        if list.len() - at < 4 + more {
+        if list.len() < at + (4 + more) {
             return refused(9, at);
         }
         return group_command(4 + more, row);

@@ -51,9 +51,9 @@ afterWork l image s =
 
 unfoldable pub afterCommand : List ℕ → List ℕ → Drafted → Drafted
 afterCommand l image s =
-    let set = afterSetting l s in
+    let setting = afterSetting l s in
     let work = afterWork l image s in
-    cond {A = Drafted} (eqb (settingKind (idAt l (s .draft .at))) 0) work set
+    cond {A = Drafted} (eqb (settingKind (idAt l (s .draft .at))) 0) work setting
 
 -- a work command stands at the position
 pub record CanWork (l image : List ℕ) (s : Drafted) : Type 0 where

@@ -61,7 +61,7 @@ fn emit_work(
 {
     let at = d.at;
     let words = command::command_size(list, at);
-    let n = settings::emit_changed(d.changed, list, image, latest, sent, out, d.written);
+    let n = settings::emit_settings(d.changed, list, image, latest, sent, out, d.written);
     copy(list, at, words, out, n);
     Draft {
         at: at + words,
@@ -71,7 +71,7 @@ fn emit_work(
 }
 
 // A setting: its command is the latest of its number, which is below 64, rises with the id, and is below 16 for one word.
-pub fn take_setting(d: Draft, id: u8, words: usize, latest: &mut [u16; 64]) -> Draft
+fn take_setting(d: Draft, id: u8, words: usize, latest: &mut [u16; 64]) -> Draft
     requires { ⌜ (d .at ≤ longest) × (words ≤ longest) × (numberOf id < 64) ⌝ }
     ensures { λ r. ⌜ (r ≡ record { at = d .at + words; written = d .written; changed = bitOr (d .changed) (2 ^ numberOf id) }) × (now (latest .exit) ≡ set (now (latest .entry)) (numberOf id) (d .at)) ⌝ }
 {

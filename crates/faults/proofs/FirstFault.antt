@@ -17,12 +17,11 @@ use Rattle.rules.specs.Decode.{Decoded, bad, firstFault}
 use Rattle.theory.proofs.Numbers.{AllProper, not-zero}
 use Rattle.table.specs.declared.Group.{Group}
 use Rattle.table.specs.Ids.{groupId}
-use Rattle.table.specs.Tables.{rowNumber, rowAt, maskOf, rowMasks}
-use Rattle.table.specs.Tables.{more}
+use Rattle.table.specs.Tables.{more, rowNumber, rowAt, maskOf, maskAt}
 use Rattle.table.proofs.Tables.{Known, ruled}
 use Rattle.values.specs.declared.Faults.{Faults}
-use Rattle.values.specs.First.{firstRefusal, found, none, firstOf}
-use Rattle.faults.specs.Faults.{unlessDefined, own, outside}
+use Rattle.values.specs.First.{firstRefusal, found, noRefusal, firstOf}
+use Rattle.faults.specs.Faults.{unlessDefined, firstUndefined, own, anyUndefined}
 
 -- every bit is defined under the mask of all bits
 ones : (k w : ℕ) → lowest k w (2 ^ k - 1) ≡ k
@@ -78,20 +77,13 @@ module _ (r : Row) (h a b c : ℕ) (m₀ m₁ m₂ m₃ : ℕ) where
   by-masks (x ∷ y ∷ z ∷ w ∷ rest) em e true l n = absurd (omega arith)
   by-masks (x ∷ y ∷ z ∷ w ∷ rest) em e false l n = absurd (omega arith)
 
--- four words against the masks of an id's row, then the rules on values
-abbrev pub masked : Group → Group → Refusal → Refusal
-masked g m next =
-    unlessDefined 0 (g .header) (m .header)
-    (unlessDefined 1 (g .second) (m .second) (unlessDefined 2 (g .third) (m .third) (unlessDefined 3 (g .fourth) (m .fourth) next)))
-
--- they give the first fault of its command
-pub fault-is : (id : ℕ) (g m : Group) → Known id → m ≡ rowMasks (rowNumber id)
-    → masked g m (firstRefusal (valueFaults id (g .header) (more g))) ≡ firstRefusal (faults (rowAt id) (g .header) (own (rowAt id) g))
-fault-is id g m k e =
-    rw e
-    (ap (λ (j : ℕ). masked g (rowMasks (rowNumber id)) (firstRefusal (valueFaults j (g .header) (more g)))) (sym (k .own-id))
+-- undefined bits under the masks of an id's row, then the rules on values: the first fault of its command
+pub fault-is : (id : ℕ) (g : Group) → Known id
+    → firstUndefined (rowNumber id) g (firstRefusal (valueFaults id (g .header) (more g))) ≡ firstRefusal (faults (rowAt id) (g .header) (own (rowAt id) g))
+fault-is id g k =
+    ap (λ (j : ℕ). firstUndefined (rowNumber id) g (firstRefusal (valueFaults j (g .header) (more g)))) (sym (k .own-id))
     ∙ by-masks (rowAt id) (g .header) (g .second) (g .third) (g .fourth) _ _ _ _ (rowAt id .more) refl (k .masks) (groupId id) (k .length-more)
-    (λ f. ap ruled (k .own-id) ∙ k .one-word f))
+    (λ f. ap ruled (k .own-id) ∙ k .one-word f)
 
 -- a fault among four, or a later one
 found-first : (a b c d : Bool) (p q r s next : Refusal) → found p ≡ true → found q ≡ true → found r ≡ true → found s ≡ true
@@ -104,12 +96,12 @@ found-first false false false false p q r s next e f g h = refl
 
 -- whether there is one
 pub faulty-is : (id : ℕ) (g : Group) → Known id
-    → outside g (rowMasks (rowNumber id)) || found (firstRefusal (valueFaults id (g .header) (more g)))
+    → anyUndefined (rowNumber id) g || found (firstRefusal (valueFaults id (g .header) (more g)))
     ≡ found (firstRefusal (faults (rowAt id) (g .header) (own (rowAt id) g)))
 faulty-is id g k =
-    let m : Group = rowMasks (rowNumber id) in
-    found-first (undefined (g .header) (m .header)) (undefined (g .second) (m .second)) (undefined (g .third) (m .third)) (undefined (g .fourth) (m .fourth))
-    _ _ _ _ (firstRefusal (valueFaults id (g .header) (more g))) refl refl refl refl ∙ ap found (fault-is id g m k refl)
+    let n : ℕ = rowNumber id in
+    found-first (undefined (g .header) (maskAt n 0)) (undefined (g .second) (maskAt n 1)) (undefined (g .third) (maskAt n 2)) (undefined (g .fourth) (maskAt n 3))
+    _ _ _ _ (firstRefusal (valueFaults id (g .header) (more g))) refl refl refl refl ∙ ap found (fault-is id g k)
 
 pub any-is : (f : Faults) → ((f .first || f .second) || (f .third || f .fourth)) || not (eqb (f .clash) 0) ≡ found (firstOf f)
 any-is f = found-first (f .first) (f .second) (f .third) (f .fourth) _ _ _ _ (refusal (f .clash) 0) refl refl refl refl
@@ -120,10 +112,10 @@ no-words i (m ∷ ms) = refl
 
 -- a command of one word has one rule
 pub single-fault : (id h : ℕ) → Known id → groupId id ≡ false
-    → firstRefusal (faults (rowAt id) h []) ≡ unlessDefined 0 h (rowMasks (rowNumber id) .header) none
+    → firstRefusal (faults (rowAt id) h []) ≡ unlessDefined 0 h (maskAt (rowNumber id) 0) noRefusal
 unfolding faults
 single-fault id h k f =
-    let m : rowMasks (rowNumber id) .header ≡ rowAt id .mask = let q = k .masks in cc in
+    let m : maskAt (rowNumber id) 0 ≡ rowAt id .mask = let q = k .masks in cc in
     rw (m, no-words 1 (rowAt id .more), unruled-values (rowAt id .id) h [] (ap ruled (k .own-id) ∙ k .one-word f))
 
 -- the first fault, and what stands behind the faults

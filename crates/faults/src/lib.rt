@@ -1,4 +1,5 @@
 // The first fault of a command: an undefined bit in one of its own words, else what the rules on values (crates/values) find.
+use masks::Masks;
 use rules::NO_BIT;
 use rules::Refusal;
 use table::Group;
@@ -9,9 +10,9 @@ ghost use mathlib.Core.List.{[], _∷_};
 ghost use Prim.Native.Nat.{_<_};
 ghost use Rattle.rules.specs.Word.{lowestUndefined, undefined};
 ghost use Rattle.rules.specs.Values.{refusal, undefinedBit, valueFaults, faults};
-ghost use Rattle.table.specs.Tables.{rowNumber, rowAt, rowMasks, more};
-ghost use Rattle.values.specs.First.{firstRefusal, found, none, firstOf};
-ghost use Rattle.faults.specs.Faults.{unlessDefined, own, outside};
+ghost use Rattle.table.specs.Tables.{rowCount, rowNumber, rowAt, maskTable, more};
+ghost use Rattle.values.specs.First.{firstRefusal, found, noRefusal, firstOf};
+ghost use Rattle.faults.specs.Faults.{unlessDefined, firstUndefined, own, anyUndefined};
 
 // ---- undefined bits
 
@@ -51,15 +52,14 @@ fn unless_defined(at: usize, word: u32, mask: u32, next: Refusal) -> Refusal
 }
 
 // A word of a group has an undefined bit: with `bad_values` all that an accepted command is asked.
-pub fn undefined_bits(row: u8, g: Group) -> bool
-    requires { ⌜ row < 16 ⌝ }
-    ensures { λ r. ⌜ r ≡ outside g (rowMasks row) ⌝ }
+pub fn undefined_bits(masks: &Masks, row: u8, g: Group) -> bool
+    requires { ⌜ (now masks ≡ maskTable) × (row < rowCount) ⌝ }
+    ensures { λ r. ⌜ r ≡ anyUndefined row g ⌝ }
 {
-    let m = masks::masks_of(row);
-    let a = undefined(g.header, m.header);
-    let b = undefined(g.second, m.second);
-    let c = undefined(g.third, m.third);
-    let d = undefined(g.fourth, m.fourth);
+    let a = undefined(g.header, masks::mask(masks, row, 0));
+    let b = undefined(g.second, masks::mask(masks, row, 1));
+    let c = undefined(g.third, masks::mask(masks, row, 2));
+    let d = undefined(g.fourth, masks::mask(masks, row, 3));
     (a | b) | (c | d)
 }
 
@@ -121,7 +121,7 @@ fn first(f: Faults) -> Refusal
 }
 
 fn no_fault() -> Refusal
-    ensures { λ r. ⌜ r ≡ none ⌝ }
+    ensures { λ r. ⌜ r ≡ noRefusal ⌝ }
 {
     Refusal {
         number: 0,
@@ -145,21 +145,28 @@ fn value_fault(id: u8, g: Group) -> Refusal
 
 // ---- all of them
 
-// Refusals 6, 7 and 15 to 19 of a command of four words.
+// Refusal 6 of the first word of a group that has an undefined bit, else the next refusal.
+fn first_undefined(masks: &Masks, row: u8, g: Group, next: Refusal) -> Refusal
+    requires { ⌜ (now masks ≡ maskTable) × (row < rowCount) ⌝ }
+    ensures { λ r. ⌜ r ≡ firstUndefined row g next ⌝ }
+{
+    let f = unless_defined(3, g.fourth, masks::mask(masks, row, 3), next);
+    let f = unless_defined(2, g.third, masks::mask(masks, row, 2), f);
+    let f = unless_defined(1, g.second, masks::mask(masks, row, 1), f);
+    unless_defined(0, g.header, masks::mask(masks, row, 0), f)
+}
+
+// Refusals 6, 7 and 15 to 19 of a command of four words. Only a refusal asks for them: it makes its own table of masks.
 pub fn first_fault(row: u8, id: u8, header: u32, second: u32, third: u32, fourth: u32) -> Refusal
-    requires { ⌜ (row ≡ rowNumber id) × (row < 16) ⌝ }
+    requires { ⌜ (row ≡ rowNumber id) × (row < rowCount) ⌝ }
     ensures { λ r. ⌜ r ≡ firstRefusal (faults (rowAt id) header (own (rowAt id) (record { header = header; second = second; third = third; fourth = fourth }))) ⌝ }
 {
-    let m = masks::masks_of(row);
     let g = Group {
         header,
         second,
         third,
         fourth,
     };
-    let f = value_fault(id, g);
-    let f = unless_defined(3, fourth, m.fourth, f);
-    let f = unless_defined(2, third, m.third, f);
-    let f = unless_defined(1, second, m.second, f);
-    unless_defined(0, header, m.header, f)
+    let masks = masks::mask_table();
+    first_undefined(&masks, row, g, value_fault(id, g))
 }

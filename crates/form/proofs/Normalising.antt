@@ -12,7 +12,7 @@ use Rattle.rules.specs.Command.{Command, wordsAll}
 use Rattle.rules.specs.Walk.{Parsed, refused, accepted, parse}
 use Rattle.rules.specs.Form.{form}
 use Rattle.rules.specs.declared.Answer.{Answer}
-use Rattle.rules.specs.Answer.{acceptedAnswer, acceptedList, refuse, writeParsed, measureParsed, normalising, measuring, commandsOf, normalForm}
+use Rattle.rules.specs.Answer.{acceptedAnswer, acceptedList, refusedAnswer, refuse, writeParsed, measureParsed, normalising, measuring, commandsOf, normalForm}
 use Rattle.theory.proofs.Verdict.{normalising-zero}
 use Rattle.theory.proofs.Form.{form-fits}
 use Rattle.theory.proofs.Demands.{told-is-enough, told-never-longer}
@@ -42,6 +42,20 @@ module _ (l image buffer : List ℕ) where
   normalise-done c k e h =
       let fits = form-fits image l (commandsOf (parse image l)) (counts (parse image l) c k e .is) in
       answer-done made l image buffer (parse image l) c k e (length (normalForm image l)) refl (omega arith)
+
+  -- ---- the length alone
+
+  pub measure-refused : (f : Refusal) → walkedOf (parse image l) ≡ walked.Refused f → refusedAnswer f ≡ measuring l image
+  unfolding measuring
+  measure-refused f e = by-refused (parse image l) e
+    where
+      by-refused : (x : Parsed) → walkedOf x ≡ walked.Refused f → refusedAnswer f ≡ measureParsed l image x
+      by-refused (refused g) e = let eg : f ≡ g = cc in ap refusedAnswer eg
+      by-refused (accepted cs) e = let z : _≡_ {A = ℕ} 0 1 = cc in absurd (omega arith)
+
+  pub measure-done : (c k : ℕ) → walkedOf (parse image l) ≡ walked.Accepted c k → acceptedAnswer (length l) c k (length (normalForm image l)) ≡ measuring l image
+  unfolding measuring
+  measure-done c k e = let f = counts (parse image l) c k e in sym (ap (measureParsed l image) (f .is) ∙ rw (f .commands, f .records-are))
 
   -- ---- by what was measured
 

@@ -1,4 +1,4 @@
-// The normal form of a list: the normaliser.
+// The normal form of a list: the normaliser, and the measurer, which tells its length (document 02, Ticket 4).
 use draft::Draft;
 use list::Walked;
 use rules::Answer;
@@ -6,7 +6,7 @@ ghost use mathlib.Core.Path.{_≡_};
 ghost use lib.ListN.{length};
 ghost use lib.Seq.{sets};
 ghost use Rattle.rules.specs.Walk.{parse, accepted};
-ghost use Rattle.rules.specs.Answer.{normalising, normalForm, commandsOf};
+ghost use Rattle.rules.specs.Answer.{normalising, measuring, normalForm, commandsOf};
 
 // The form of an accepted list, written as far as the buffer goes, and its length.
 fn form(list: &[u32], image: &[u32], out: &mut [u32]) -> usize
@@ -23,14 +23,29 @@ fn form(list: &[u32], image: &[u32], out: &mut [u32]) -> usize
     while d.at < list.len() {
         d = draft::take_command(list, image, d, &mut latest, &mut sent, out);
     }
-    settings::emit_changed(d.changed, list, image, &latest, &mut sent, out, d.written)
+    settings::emit_settings(d.changed, list, image, &latest, &mut sent, out, d.written)
+}
+
+// The measurer: from a list and a starting image to the normal form's length. The form is written to no buffer.
+pub fn measure(list: &[u32], image: &[u32]) -> Answer
+    ensures { λ r. ⌜ r ≡ measuring (now (list .entry)) (now (image .entry)) ⌝ }
+{
+    let w = list::check(list, image);
+    match w {
+        Walked::Refused(f) => list::refuse(f),
+        Walked::Accepted(commands, records) => {
+            let mut nothing = [0u32; 0];
+            let length = form(list, image, &mut nothing);
+            list::accepted(list.len(), commands, records, length)
+        }
+    }
 }
 
 // Where a form might not fit, it is measured first.
 fn normalise_measured(list: &[u32], image: &[u32], out: &mut [u32]) -> Answer
     ensures { λ r. ⌜ record { answer = r; image = now (image .entry); buffer = now (out .exit) } ≡ normalising (now (list .entry)) (now (image .entry)) (now (out .entry)) ⌝ }
 {
-    let a = measurer::measure(list, image);
+    let a = measure(list, image);
     if a.verdict != 0 {
         return a;
     }

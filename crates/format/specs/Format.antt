@@ -18,12 +18,12 @@ rowFrom a b fresh [] = []
 rowFrom a b fresh (x ∷ []) = []
 rowFrom a b fresh (x ∷ y ∷ cs) = cond (fresh && (eqb x a && eqb y b)) (lineOf cs) (rowFrom a b (eqb x 0x0A) (y ∷ cs))
 
-abbrev pub rowOf : List ℕ → ℕ → ℕ → List ℕ
-rowOf table a b = rowFrom a b true table
+abbrev pub tableRow : List ℕ → ℕ → ℕ → List ℕ
+tableRow table a b = rowFrom a b true table
 
 -- the row whose key is a number's last two hexadecimal digits
 abbrev pub hexRow : List ℕ → ℕ → List ℕ
-hexRow table n = rowOf table (digit (n / 16 % 16)) (digit (n % 16))
+hexRow table n = tableRow table (digit (n / 16 % 16)) (digit (n % 16))
 
 -- ---- formats
 

@@ -4,7 +4,7 @@ ghost use mathlib.Core.Path.{_≡_};
 ghost use Prim.Native.Nat.{_≤_};
 ghost use lib.ListN.{length, drop};
 ghost use Rattle.text.specs.Puts.{Puts, Bounded};
-ghost use Rattle.format.specs.Format.{lineOf, rowOf, hole, formatted};
+ghost use Rattle.format.specs.Format.{lineOf, tableRow, hole, formatted};
 
 // ---- tables
 
@@ -25,7 +25,7 @@ fn put_line(text: &mut [u8], at: usize, line: &[u8]) -> usize
 
 // Where the row with a key begins, behind the key: the end of the table where there is none.
 fn find_row(table: &[u8], a: u8, b: u8) -> usize
-    ensures { λ r. ⌜ (r ≤ length (now (table .entry))) × (lineOf (drop r (now (table .entry))) ≡ rowOf (now (table .entry)) a b) ⌝ }
+    ensures { λ r. ⌜ (r ≤ length (now (table .entry))) × (lineOf (drop r (now (table .entry))) ≡ tableRow (now (table .entry)) a b) ⌝ }
 {
     let mut fresh = true;
     let mut i = 0;
@@ -42,8 +42,8 @@ fn find_row(table: &[u8], a: u8, b: u8) -> usize
 
 // What stands behind a key of two bytes, to the end of its line.
 pub fn put_row(text: &mut [u8], at: usize, table: &[u8], a: u8, b: u8) -> usize
-    requires { ⌜ Bounded at (rowOf (now table) a b) ⌝ }
-    ensures { λ r. ⌜ Puts (rowOf (now (table .entry)) a b) (now (text .entry)) at (now (text .exit)) r ⌝ }
+    requires { ⌜ Bounded at (tableRow (now table) a b) ⌝ }
+    ensures { λ r. ⌜ Puts (tableRow (now (table .entry)) a b) (now (text .entry)) at (now (text .exit)) r ⌝ }
 {
     let from = find_row(table, a, b);
     put_line(text, at, &table[from..])

@@ -39,7 +39,7 @@ pub extern "C" fn xp10_normalise(
 pub extern "C" fn xp10_measure(list: &[u32], image: &[u32], answer: &mut [u32]) -> u32
     ensures { λ r. ⌜ record { verdict = r; answer = now (answer .exit) } ≡ answerResult (measuring (now (list .entry)) (now (image .entry))) (now (answer .entry)) ⌝ }
 {
-    let a = measurer::measure(list, image);
+    let a = form::measure(list, image);
     answer::write(a, answer);
     a.verdict
 }

@@ -4,13 +4,12 @@ use native.Mathlib.Nat.{add-zero, zero-add}
 use native.Mathlib.Omega.{arith}
 use mathlib.Core.Path.{_≡_, refl, ap, ap₂, sym, _∙_}
 use mathlib.Core.Bool.{Bool, true, false, cond, not, _&&_}
-use mathlib.Core.List.{List, [], _∷_, _++_}
+use mathlib.Core.List.{List, [], _∷_}
 use mathlib.Core.Option.{some, none}
-use lib.ListN.{length, getD, drop, length-drop, take-append-drop}
-use lib.Seq.{drop-cons, drop-drop}
+use lib.ListN.{length, getD, drop, length-drop}
 use Rattle.rules.specs.declared.Refusal.{Refusal}
 use Rattle.rules.specs.Table.{isSetting, isBegin}
-use Rattle.rules.specs.Command.{Command, words}
+use Rattle.rules.specs.Command.{Command}
 use Rattle.rules.specs.Values.{refusal}
 use Rattle.rules.specs.Decode.{Decoded, bad, good, decode}
 use Rattle.rules.specs.Walk.{State, start, outOfOrder, orderAfter, next, Step, stop, took, inOrder, stepDecoded, step, Parsed, refused, accepted, andThen, onward, walk}
@@ -21,14 +20,19 @@ use Rattle.command.specs.declared.Decoded.{Decoded as Decoded′}
 use Rattle.command.specs.declared.Decoded.the-variants as decoded
 use Rattle.command.specs.View.{kept, decodedAt}
 use Rattle.command.specs.View.{view as viewDecoded}
-use Rattle.command.proofs.Standing.{Stands, stands}
 use Rattle.list.specs.declared.Cursor.{Cursor}
 use Rattle.list.specs.declared.Step.the-variants.{On, Refused}
 use Rattle.list.specs.declared.Walked.{Walked}
 use Rattle.list.specs.declared.Walked.the-variants as walked
-use Rattle.list.specs.View.{origin, Counted, InsideAfter, after, taken, stateOf, view, stepAt, walkedOf}
+use Rattle.list.specs.View.{origin, Counted, InsideAfter, ordered, advanced, taken, stateOf, view, stepAt, walkedOf}
 
 -- ---- one step
+
+-- a command in order is the one given
+pub inside-ordered : (c : Cursor) (d : Decoded′) → InsideAfter c d → InsideAfter c (ordered c d)
+inside-ordered c (decoded.Refused f) h = tt
+inside-ordered c (decoded.Command k) h =
+    elim (c .flip && not (k .begin)) as (λ b. InsideAfter c (cond b (decoded.Refused (refusal 10 (c .at))) (decoded.Command k))) [ true ↦ tt | false ↦ h ]
 
 module _ (l : List ℕ) (c : Cursor) where
   abbrev w : ℕ
@@ -41,7 +45,7 @@ module _ (l : List ℕ) (c : Cursor) where
   unfolding outOfOrder orderAfter
   by-decoded image (bad f) = refl
   by-decoded image (good d) =
-      elim (c .flip && not (isBegin (d .row .kind))) as (λ b. cond b (Refused (refusal 10 (c .at))) (On (after c (kept d)))
+      elim (c .flip && not (isBegin (d .row .kind))) as (λ b. advanced c (cond b (decoded.Refused (refusal 10 (c .at))) (decoded.Command (kept d)))
       ≡ view c (inOrder (cond b (some 10) none) d (next (stateOf image c) d))) [
         | true ↦ ap (λ (n : ℕ). Refused (refusal 10 n)) (sym (add-zero (c .at)))
         | false ↦ refl
@@ -77,7 +81,7 @@ length-records p q (c ∷ cs) =
       | false ↦ ap suc (length-records (p + n) (q + n) cs)
     ]
 
-pub record-count : (p : ℕ) (c : Command) (cs : List Command) → length (records p (c ∷ cs)) ≡ cond (isSetting (c .row .kind)) 0 1 + length (records 0 cs)
+record-count : (p : ℕ) (c : Command) (cs : List Command) → length (records p (c ∷ cs)) ≡ cond (isSetting (c .row .kind)) 0 1 + length (records 0 cs)
 record-count p c cs =
     let n : ℕ = suc (length (c .rest)) in
     elim (isSetting (c .row .kind)) as (λ t. length (cond t (records (p + n) cs) (record { id = c .row .id; position = p; size = n; header = c .header } ∷ records (p + n) cs))
@@ -91,14 +95,6 @@ resume-then : (c e : Cursor) (d : Command) (x : Parsed) → e .commands ≡ c .c
 resume-then c e d (refused f) ec er = refl
 resume-then c e d (accepted cs) ec er =
     ap₂ {C = Walked} (λ a b. walked.Accepted a b) (omega arith) (omega (arith, record-count 0 d cs))
-
--- the command that a step has passed
-pub record Passes (l : List ℕ) (c e : Cursor) : Type 0 where
-  pub command : Command
-  pub left : drop (c .at) l ≡ words command ++ drop (e .at) l
-  pub stands : Stands l (c .at) command (drop (e .at) l)
-  pub at-is : e .at ≡ c .at + suc (length (command .rest))
-  pub records-are : e .records ≡ c .records + cond (isSetting (command .row .kind)) 0 1
 
 -- the image after a step
 abbrev imageOf : Step → List ℕ
@@ -173,28 +169,6 @@ module _ (l : List ℕ) (c : Cursor) (h : c .at < length l) where
             ∙ resume-then c e d (walk t n 0 (drop n l)) ec er
             ∙ ap (resume e) (ap (λ (u : State). walk u n 0 (drop n l)) es ∙ ap (λ (m : ℕ). walk (stateOf (t .image) e) m 0 (drop m l)) en);
       }
-
-  by-passes : (image : List ℕ) (x : Step) → stepFrom image ≡ x → (e : Cursor) → On e ≡ view c x → Passes l c e
-  by-passes image (stop f) ex e q = let z : _≡_ {A = ℕ} 0 1 = cc in absurd (omega arith)
-  by-passes image (took d t) ex e q =
-      let is : record { at = c .at + suc (length (d .rest)); commands = c .commands + 1; records = c .records + cond (isSetting (d .row .kind)) 0 1; flip = t .order .flip } ≡ e = cc in
-      let k = step-took (stateOf image c) (getD l (c .at) 0) (drop (suc (c .at)) l) d t ex .read in
-      let n : ℕ = length (d .rest) in
-      let ea : suc (c .at) + n ≡ e .at = omega (arith, ap (λ (y : Cursor). y .at) is) in
-      let rest : drop (suc (c .at)) l ≡ d .rest ++ drop (e .at) l =
-      sym (take-append-drop n (drop (suc (c .at)) l)) ∙ ap₂ (λ (a b : List ℕ). a ++ b) (k .rest-is) (drop-drop n (suc (c .at)) l ∙ ap (λ (m : ℕ). drop m l) ea) in
-      let left′ : drop (c .at) l ≡ words d ++ drop (e .at) l = drop-cons l (c .at) 0 h ∙ ap₂ {C = List ℕ} (λ x xs. x ∷ xs) (k .first) rest in
-      record {
-        command = d;
-        left = left′;
-        stands = stands l (c .at) d (drop (e .at) l) h (k .valid) left′;
-        at-is = ap (λ (y : Cursor). y .at) (sym is);
-        records-are = ap (λ (y : Cursor). y .records) (sym is);
-      }
-
-  pub passes : (e : Cursor) → ((image : List ℕ) → On e ≡ stepAt l image c) → Passes l c e
-  unfolding stepAt
-  passes e q = by-passes [] (stepFrom []) refl e (q [])
 
   advance : (e : Cursor) → ((image : List ℕ) → On e ≡ stepAt l image c) → (image : List ℕ) → Advance e image (imageOf (stepFrom image))
   unfolding stepAt

@@ -26,8 +26,8 @@ pub record Counted (c : Cursor) : Type 0 where
   pub some : c .commands ≤ c .at
 
 -- a position that the machine's sizes hold
-abbrev pub Inside : ℕ → Type 0
-Inside n = n < 2 ^ 63
+abbrev pub Addressable : ℕ → Type 0
+Addressable n = n < 2 ^ 63
 
 -- the cursor after a command
 abbrev pub after : Cursor → Command → Cursor
@@ -39,14 +39,23 @@ after c k =
       flip = k .base;
     }
 
--- the same of a decoded command, or its refusal: 10 behind a surface base
+-- a decoded command that is in order, or its refusal: 10 behind a surface base
+abbrev pub ordered : Cursor → Decoded → Decoded
+ordered c (decoded.Refused f) = decoded.Refused f
+ordered c (decoded.Command k) = cond (c .flip && not (k .begin)) (decoded.Refused (refusal 10 (c .at))) (decoded.Command k)
+
+-- the cursor after a decoded command, or its refusal
+abbrev pub advanced : Cursor → Decoded → Step
+advanced c (decoded.Refused f) = Refused f
+advanced c (decoded.Command k) = On (after c k)
+
+-- the same of one that has to be in order
 abbrev pub taken : Cursor → Decoded → Step
-taken c (decoded.Refused f) = Refused f
-taken c (decoded.Command k) = cond (c .flip && not (k .begin)) (Refused (refusal 10 (c .at))) (On (after c k))
+taken c d = advanced c (ordered c d)
 
 abbrev pub InsideAfter : Cursor → Decoded → Type 0
 InsideAfter c (decoded.Refused f) = Unit {0}
-InsideAfter c (decoded.Command k) = Inside (c .at + k .words)
+InsideAfter c (decoded.Command k) = Addressable (c .at + k .words)
 
 -- the rules' state at a cursor, with the image that is met there
 abbrev pub stateOf : List ℕ → Cursor → State

@@ -1,6 +1,7 @@
 // A whole list: the cursor that walks it, and the verdict.
 use command::Command;
 use command::Decoded;
+use masks::Masks;
 use rules::Answer;
 use rules::NO_BIT;
 use rules::Refusal;
@@ -12,9 +13,9 @@ ghost use lib.ListN.{length};
 ghost use Rattle.rules.specs.Walk.{walk, start, parse};
 ghost use Rattle.rules.specs.Values.{refusal};
 ghost use Rattle.rules.specs.Answer.{refusedAnswer, acceptedAnswer};
-ghost use Rattle.table.specs.Tables.{rowTable};
+ghost use Rattle.table.specs.Tables.{rowTable, maskTable};
 ghost use Rattle.list.specs.declared.Walked.the-variants as walked;
-ghost use Rattle.list.specs.View.{origin, after, taken, stepAt, walkedOf, Counted, Inside, InsideAfter};
+ghost use Rattle.list.specs.View.{origin, after, ordered, taken, stepAt, walkedOf, Counted, Addressable, InsideAfter};
 
 // Where the walk stands: the position and the counts after the commands passed, and whether the last was a surface base.
 pub struct Cursor {
@@ -56,7 +57,7 @@ impl Cursor {
     }
 
     fn after(self, k: Command) -> Self
-        requires { ⌜ Counted self × Inside (self .at + k .words) ⌝ }
+        requires { ⌜ Counted self × Addressable (self .at + k .words) ⌝ }
         ensures { λ r. ⌜ r ≡ after self k ⌝ }
     {
         let work = record_count(k.setting);
@@ -68,29 +69,34 @@ impl Cursor {
         }
     }
 
+    // The rules on order: a decoded command that may stand here, else its refusal: the one that it came in with, or 10.
+    fn in_order(self, d: Decoded) -> Decoded
+        ensures { λ r. ⌜ r ≡ ordered self d ⌝ }
+    {
+        let Decoded::Command(k) = d else {
+            return d;
+        };
+        if self.flip & !k.begin {
+            return command::refused(10, self.at);
+        }
+        d
+    }
+
     // The cursor after a decoded command, or its refusal: 3 to 10.
     pub fn take(self, d: Decoded) -> Step
         requires { ⌜ Counted self × InsideAfter self d ⌝ }
         ensures { λ r. ⌜ r ≡ taken self d ⌝ }
     {
-        match d {
+        let e = self.in_order(d);
+        match e {
             Decoded::Refused(f) => Step::Refused(f),
-            Decoded::Command(k) => {
-                if self.flip & !k.begin {
-                    return Step::Refused(Refusal {
-                        number: 10,
-                        word: self.at,
-                        bit: NO_BIT,
-                    });
-                }
-                Step::On(self.after(k))
-            }
+            Decoded::Command(k) => Step::On(self.after(k)),
         }
     }
 
     // One command: refusals 3 to 10, from every image that it may meet. Each known id from 40 on has a group.
-    fn step(self, rows: &[u8; 256], list: &[u32]) -> Step
-        requires { ⌜ Counted self × (self .at < length (now list)) × (now rows ≡ rowTable) ⌝ }
+    fn step(self, rows: &[u8; 256], masks: &Masks, list: &[u32]) -> Step
+        requires { ⌜ Counted self × (self .at < length (now list)) × (now rows ≡ rowTable) × (now masks ≡ maskTable) ⌝ }
         ensures { λ r. ⌜ ((image : List ℕ) → r ≡ stepAt (now (list .entry)) image self) ⌝ }
     {
         let id = words::id_of(words::fetch(list, self.at));
@@ -99,20 +105,20 @@ impl Cursor {
             return self.take(command::refused(command::unknown(id), self.at));
         }
         if (0x40 <= id) | (row == table::BEGIN) {
-            return self.take(command::decode_group(list, self.at, id, row));
+            return self.take(command::decode_group(masks, list, self.at, id, row));
         }
-        self.take(command::decode_single(list, self.at, id, row))
+        self.take(command::decode_single(masks, list, self.at, id, row))
     }
 }
 
 // The first pass: the whole list is checked and counted, and nothing is written.
-fn walk(rows: &[u8; 256], list: &[u32]) -> Walked
-    requires { ⌜ now rows ≡ rowTable ⌝ }
+fn walk(rows: &[u8; 256], masks: &Masks, list: &[u32]) -> Walked
+    requires { ⌜ (now rows ≡ rowTable) × (now masks ≡ maskTable) ⌝ }
     ensures { λ r. ⌜ ((image : List ℕ) → r ≡ walkedOf (walk (start image) 0 0 (now (list .entry)))) ⌝ }
 {
     let mut c = Cursor::start();
     while c.at < list.len() {
-        let s = c.step(rows, list);
+        let s = c.step(rows, masks, list);
         match s {
             Step::Refused(f) => return Walked::Refused(f),
             Step::On(next) => c = next,
@@ -182,6 +188,8 @@ pub fn check(list: &[u32], image: &[u32]) -> Walked
     if image.len() != 256 {
         return refused(2, 0);
     }
-    let rows = table::row_table();
-    walk(&rows, list)
+    let mut rows = [table::UNKNOWN; 256];
+    table::fill_rows(&mut rows);
+    let masks = masks::mask_table();
+    walk(&rows, &masks, list)
 }

@@ -1,12 +1,16 @@
-// The masks of the table's rows: the defined bits of each word.
-use table::Group;
+// The masks: the defined bits of each word of a command, by the row of the table and the word.
+//
+// As the table of rows, the table of masks is made once for a whole list and lent.
+use table::ROWS;
 ghost use mathlib.Core.Path.{_≡_};
-ghost use Prim.Native.Nat.{_+_, _<_};
-ghost use lib.ListN.{getD};
-ghost use Rattle.table.specs.Tables.{rowMasks};
+ghost use Prim.Native.Nat.{_<_};
+ghost use Rattle.table.specs.Tables.{rowCount, maskAt, maskTable};
 
-// The defined bits by row and word; a word that a row does not have has every bit.
-const MASKS: [u32; 64] = [
+// The table of masks: four words to a row.
+pub type Masks = [u32; ROWS as usize * 4];
+
+// "The masks show the defined bits, first word's header first." A word that a row does not have has every bit.
+const MASKS: Masks = [
     // 00 flush
     0x00FFFFFF,
     0xFFFFFFFF,
@@ -89,40 +93,16 @@ const MASKS: [u32; 64] = [
     0xFFFFFFFF,
 ];
 
-fn masks_at(masks: &[u32; 64], i: usize) -> Group
-    requires { ⌜ i + 3 < 64 ⌝ }
-    ensures { λ r. ⌜ r ≡ record { header = getD (now (masks .entry)) i 0; second = getD (now (masks .entry)) (i + 1) 0; third = getD (now (masks .entry)) (i + 2) 0; fourth = getD (now (masks .entry)) (i + 3) 0 } ⌝ }
+pub fn mask_table() -> Masks
+    ensures { λ r. ⌜ r ≡ maskTable ⌝ }
 {
-    Group {
-        header: masks[i],
-        second: masks[i + 1],
-        third: masks[i + 2],
-        fourth: masks[i + 3],
-    }
+    MASKS
 }
 
-// The masks of a row. By a `match` on constants the compiler makes a static table of them.
-pub fn masks_of(row: u8) -> Group
-    requires { ⌜ row < 16 ⌝ }
-    ensures { λ r. ⌜ r ≡ rowMasks row ⌝ }
+// The mask of a word of a row's command.
+pub fn mask(masks: &Masks, row: u8, word: usize) -> u32
+    requires { ⌜ (now masks ≡ maskTable) × (row < rowCount) × (word < 4) ⌝ }
+    ensures { λ r. ⌜ r ≡ maskAt row word ⌝ }
 {
-    let masks = MASKS;
-    match row {
-        table::FLUSH => masks_at(&masks, 0),
-        table::RESET => masks_at(&masks, 4),
-        table::TRIGGER => masks_at(&masks, 8),
-        table::SURFACE_CONTROL => masks_at(&masks, 12),
-        table::SURFACE_BASE => masks_at(&masks, 16),
-        table::TIMER => masks_at(&masks, 20),
-        table::EXTENDED_BASE => masks_at(&masks, 24),
-        table::OVERFLOW => masks_at(&masks, 28),
-        table::BEGIN => masks_at(&masks, 32),
-        table::LOAD => masks_at(&masks, 36),
-        table::PRIMITIVE => masks_at(&masks, 40),
-        table::WINDOW_CLIP => masks_at(&masks, 44),
-        table::RASTER_MODE => masks_at(&masks, 48),
-        table::POLYGON_OFFSET => masks_at(&masks, 52),
-        table::DEPTH => masks_at(&masks, 56),
-        _ => masks_at(&masks, 60),
-    }
+    masks[row as usize * 4 + word]
 }

@@ -5,7 +5,7 @@ use mathlib.Core.Bool.{cond}
 use mathlib.Core.List.{List, [], _∷_, _++_}
 use lib.Dec.{ltb}
 use Rattle.text.specs.Text.{ascii, digit}
-use Rattle.format.specs.Format.{rowOf}
+use Rattle.format.specs.Format.{tableRow}
 
 abbrev rows : List String → List ℕ
 rows [] = []
@@ -67,4 +67,4 @@ refusals =
 
 -- the row of a refusal: its number takes two places
 abbrev pub refusalRow : ℕ → List ℕ
-refusalRow n = rowOf refusals (cond (ltb n 10) 0x20 (digit (n / 10 % 10))) (digit (n % 10))
+refusalRow n = tableRow refusals (cond (ltb n 10) 0x20 (digit (n / 10 % 10))) (digit (n % 10))

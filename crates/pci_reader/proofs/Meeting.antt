@@ -26,7 +26,7 @@ use Rattle.list.specs.declared.Cursor.{Cursor}
 use Rattle.list.specs.declared.Step.the-variants.{On, Refused}
 use Rattle.list.specs.declared.Walked.{Walked}
 use Rattle.list.specs.declared.Walked.the-variants as walked
-use Rattle.list.specs.View.{origin, after, taken, stepAt, walkedOf, InsideAfter}
+use Rattle.list.specs.View.{origin, advanced, taken, stepAt, walkedOf, InsideAfter}
 use Rattle.list.proofs.Steps.{step-taken, inside-after, Walking, walking-start, walking-stop, walking-on, walking-end}
 use Rattle.pairs.specs.View.{addresses}
 use Rattle.placed.specs.View.{placed}
@@ -81,7 +81,7 @@ module _ (ps : List ℕ) (at id row : ℕ) (a : KnownAt (values ps) at id row) (
     pub group-whole : length (values ps) - at < 4 → misplacedFrom at ps ≡ none → ⊥
     group-whole c e = omega (arith, there e, size-least (values ps) at id (a .id-is) small group, a .inside)
 
-    module _ (four : 4 ≤ length (values ps) - at) (g : Group) (eg : g ≡ groupAt (values ps) at) (n : ℕ) (en : n ≡ payload id (g .header) (more g)) where
+    module _ (four : at + 4 ≤ length (values ps)) (g : Group) (eg : g ≡ groupAt (values ps) at) (n : ℕ) (en : n ≡ payload id (g .header) (more g)) where
       size : sizeAt (values ps) at ≡ 4 + n
       size =
           size-group (values ps) at id (a .id-is) small group (omega (arith, a .inside))
@@ -103,7 +103,7 @@ module _ (ps : List ℕ) (at id row : ℕ) (a : KnownAt (values ps) at id row) (
           ap₂ (λ (b c : Bool). b && c) (le-leb n (length (values ps) - (at + 4)) (omega (arith, there e, size)))
           (and-right (placed id 0 (read (addresses ps) at 4)) _ (sym parts ∙ placed-here e (4 + n) size))
 
-      pub payload-inside : (leb n (length (values ps) - (at + 4)) && placed id 0 (read (addresses ps) (at + 4) n)) ≡ true → 4 + n ≤ length (values ps) - at
+      pub payload-inside : (leb n (length (values ps) - (at + 4)) && placed id 0 (read (addresses ps) (at + 4) n)) ≡ true → at + (4 + n) ≤ length (values ps)
       payload-inside u =
           let few = leb-true n (length (values ps) - (at + 4)) (and-left (leb n (length (values ps) - (at + 4))) _ u) in
           omega (arith, few, four)
@@ -125,8 +125,8 @@ module _ (ps : List ℕ) (c : Cursor) where
   stepped (decoded.Refused f) m = λ e image. step-taken (values ps) c (decoded.Refused f) (m e) image
   stepped (decoded.Command k) m = by-order (c .flip && not (k .begin)) (λ image. step-taken (values ps) c (decoded.Command k) (m .0) image)
     where
-      by-order : (b : Bool) → ((image : List ℕ) → cond b (Refused (refusal 10 (c .at))) (On (after c k)) ≡ stepAt (values ps) image c)
-          → Stepped ps c (cond b (Refused (refusal 10 (c .at))) (On (after c k)))
+      by-order : (b : Bool) → ((image : List ℕ) → advanced c (cond b (decoded.Refused (refusal 10 (c .at))) (decoded.Command k)) ≡ stepAt (values ps) image c)
+          → Stepped ps c (advanced c (cond b (decoded.Refused (refusal 10 (c .at))) (decoded.Command k)))
       by-order true s = λ e. s
       by-order false s = (s, m .1)
 

@@ -5,6 +5,7 @@ use command::Decoded;
 use list::Cursor;
 use list::Step;
 use list::Walked;
+use masks::Masks;
 use rules::Answer;
 ghost use mathlib.Core.Path.{_≡_};
 ghost use mathlib.Core.Bool.{true, false};
@@ -15,19 +16,18 @@ ghost use lib.Seq.{sets};
 ghost use Rattle.rules.specs.Walk.{walk, start};
 ghost use Rattle.rules.specs.Pci.{values, misplaced, outside, unless, parsePairs, fromPci};
 ghost use Rattle.table.specs.Ids.{groupId};
-ghost use Rattle.table.specs.Tables.{rowTable};
+ghost use Rattle.table.specs.Tables.{rowTable, maskTable};
 ghost use Rattle.command.specs.View.{KnownAt};
 ghost use Rattle.list.specs.View.{walkedOf, Counted};
 ghost use Rattle.pci_reader.specs.View.{Met, Stepped};
 
 // A command of one word. Where a pair is out of place, here and below, any refusal will do: 13 or 14 comes before it.
-fn decode_single(pairs: &[u32], at: usize, id: u8, row: u8) -> Decoded
-    requires { ⌜ KnownAt (values (now pairs)) at id row × (groupId id ≡ false) ⌝ }
+fn decode_single(masks: &Masks, pairs: &[u32], at: usize, id: u8, row: u8) -> Decoded
+    requires { ⌜ KnownAt (values (now pairs)) at id row × (groupId id ≡ false) × (now masks ≡ maskTable) ⌝ }
     ensures { λ r. ⌜ Met (now (pairs .entry)) at r ⌝ }
 {
-    let m = masks::masks_of(row);
     let header = words::header_of(pairs::value_at(pairs, at));
-    let undefined = faults::undefined(header, m.header);
+    let undefined = faults::undefined(header, masks::mask(masks, row, 0));
     if (pairs::address_at(pairs, at) != pairs::address(id, 0)) | undefined {
         return command::refused_fault(at, faults::first_fault(row, id, header, 0, 0, 0));
     }
@@ -35,15 +35,15 @@ fn decode_single(pairs: &[u32], at: usize, id: u8, row: u8) -> Decoded
 }
 
 // A command of four words and its payload.
-fn decode_group(pairs: &[u32], at: usize, id: u8, row: u8) -> Decoded
-    requires { ⌜ KnownAt (values (now pairs)) at id row × (groupId id ≡ true) ⌝ }
+fn decode_group(masks: &Masks, pairs: &[u32], at: usize, id: u8, row: u8) -> Decoded
+    requires { ⌜ KnownAt (values (now pairs)) at id row × (groupId id ≡ true) × (now masks ≡ maskTable) ⌝ }
     ensures { λ r. ⌜ Met (now (pairs .entry)) at r ⌝ }
 {
     if pairs.len() / 2 - at < 4 {
         return command::refused(5, at);
     }
     let g = pairs::group_at(pairs, at);
-    if !placed::group_placed(pairs, at, id) | faults::undefined_bits(row, g) {
+    if !placed::group_placed(pairs, at, id) | faults::undefined_bits(masks, row, g) {
         return command::refused_fault(
             at,
             faults::first_fault(row, id, g.header, g.second, g.third, g.fourth),
@@ -66,8 +66,8 @@ fn decode_group(pairs: &[u32], at: usize, id: u8, row: u8) -> Decoded
 }
 
 // One command: its refusal, or the cursor after it.
-fn step(rows: &[u8; 256], pairs: &[u32], c: Cursor) -> Step
-    requires { ⌜ Counted c × (c .at < length (values (now pairs))) × (now rows ≡ rowTable) ⌝ }
+fn step(rows: &[u8; 256], masks: &Masks, pairs: &[u32], c: Cursor) -> Step
+    requires { ⌜ Counted c × (c .at < length (values (now pairs))) × (now rows ≡ rowTable) × (now masks ≡ maskTable) ⌝ }
     ensures { λ r. ⌜ Stepped (now (pairs .entry)) c r ⌝ }
 {
     let id = words::id_of(pairs::value_at(pairs, c.at));
@@ -76,20 +76,20 @@ fn step(rows: &[u8; 256], pairs: &[u32], c: Cursor) -> Step
         return c.take(command::refused(command::unknown(id), c.at));
     }
     if (0x40 <= id) | (row == table::BEGIN) {
-        return c.take(decode_group(pairs, c.at, id, row));
+        return c.take(decode_group(masks, pairs, c.at, id, row));
     }
-    c.take(decode_single(pairs, c.at, id, row))
+    c.take(decode_single(masks, pairs, c.at, id, row))
 }
 
 // The first pass: all pairs are checked, and nothing is written.
-fn walk(rows: &[u8; 256], pairs: &[u32]) -> Walked
-    requires { ⌜ now rows ≡ rowTable ⌝ }
+fn walk(rows: &[u8; 256], masks: &Masks, pairs: &[u32]) -> Walked
+    requires { ⌜ (now rows ≡ rowTable) × (now masks ≡ maskTable) ⌝ }
     ensures { λ r. ⌜ ((image : List ℕ) → r ≡ walkedOf (unless (misplaced outside 0 0 (now (pairs .entry))) (walk (start image) 0 0 (values (now (pairs .entry)))))) ⌝ }
 {
     let n = pairs.len() / 2;
     let mut c = Cursor::start();
     while c.at < n {
-        let s = step(rows, pairs, c);
+        let s = step(rows, masks, pairs, c);
         match s {
             Step::Refused(f) => return Walked::Refused(misplaced::refuse_pairs(pairs, c.at, f)),
             Step::On(next) => c = next,
@@ -108,8 +108,10 @@ fn check(pairs: &[u32], image: &[u32]) -> Walked
     if image.len() != 256 {
         return list::refused(2, 0);
     }
-    let rows = table::row_table();
-    walk(&rows, pairs)
+    let mut rows = [table::UNKNOWN; 256];
+    table::fill_rows(&mut rows);
+    let masks = masks::mask_table();
+    walk(&rows, &masks, pairs)
 }
 
 // The list that pairs carry.

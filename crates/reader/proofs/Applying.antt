@@ -3,9 +3,11 @@ use Prim.Native.Nat.{ℕ, suc, _+_, _≤_, _<_}
 use native.Mathlib.Nat.{add-zero}
 use native.Mathlib.Omega.{arith}
 use mathlib.Core.Path.{_≡_, refl, ap, ap₂, sym, _∙_}
+use mathlib.Core.Bool.{Bool}
 use mathlib.Core.List.{List, [], _∷_, _++_, append-nil}
-use lib.ListN.{length, length-append}
+use lib.ListN.{length, getD, length-append}
 use lib.Seq.{sets, length-sets}
+use Rattle.rules.specs.Word.{idOf}
 use Rattle.rules.specs.Command.{Command, wordsAll}
 use Rattle.rules.specs.Walk.{accepted, parse}
 use Rattle.rules.specs.Image.{apply, final}
@@ -13,9 +15,10 @@ use Rattle.rules.specs.Records.{records, recordWords}
 use Rattle.theory.proofs.Image.{sets-append}
 use Rattle.theory.proofs.Differing.{length-final, final-append}
 use Rattle.theory.proofs.Records.{records-append, recordWords-append}
+use Rattle.table.specs.Ids.{settingId, settingKind}
 use Rattle.command.specs.View.{sizeAt}
 use Rattle.reader.specs.declared.Place.{Place}
-use Rattle.command.specs.Effects.{commandAt, recordAt}
+use Rattle.command.specs.Effects.{idAt, commandAt, recordAt}
 use Rattle.reader.specs.Applied.{Applies, Applied}
 use Rattle.command.proofs.Standing.{command-at}
 use Rattle.list.proofs.Position.{Position, position-start, position-end, AtCommand, after, at-command}
@@ -28,6 +31,14 @@ recorded-append : (a b : List Command) → recorded (a ++ b) ≡ recorded a ++ r
 recorded-append a b =
     ap recordWords (records-append 0 a b) ∙ recordWords-append (records 0 a) (records (0 + length (wordsAll a)) b)
     ∙ ap (λ (p : ℕ). recorded a ++ recordWords (records p b)) (omega arith)
+
+-- what is asked of the id of the command at a position
+module _ (l : List ℕ) (at w id : ℕ) (ew : w ≡ getD l at 0) (ei : id ≡ idOf w) where
+  pub member-at : (b : Bool) → b ≡ settingId id → settingId (idAt l at) ≡ b
+  member-at b e = sym (e ∙ ap settingId (ei ∙ ap idOf ew))
+
+  pub kind-at : (k : ℕ) → k ≡ settingKind id → settingKind (idAt l at) ≡ k
+  kind-at k e = sym (e ∙ ap settingKind (ei ∙ ap idOf ew))
 
 -- a setting is applied: it gives no record
 pub applied-setting : (l : List ℕ) (at n written : ℕ) (image buffer image′ : List ℕ) → sizeAt l at ≡ n → recordAt l at ≡ [] → image′ ≡ apply (commandAt l at) image
@@ -81,10 +92,10 @@ module _ (all : List Command) (l image₀ recs₀ : List ℕ) (few : length l �
         )
 
     pub applying-command : length image₀ ≡ 256 → length (recordWords (records 0 all)) ≤ length recs₀ → Applies l (p .at) (p .written) image recs
-    applying-command long room′ = record {
+    applying-command long enough = record {
       command = command-at few (t .stands);
       long = ap length (g .image-is) ∙ length-final image₀ done ∙ long;
-      room = omega (arith, written-grown, within, ap length (g .recs-is), length-sets recs₀ 0 (recorded done));
+      fits = omega (arith, written-grown, within, ap length (g .recs-is), length-sets recs₀ 0 (recorded done));
     }
 
     pub applying-on : (p′ : Place) (image′ recs′ : List ℕ) → Applied l (p .at) (p .written) image recs p′ image′ recs′

@@ -13,7 +13,7 @@ use Rattle.reader.specs.declared.Place.{Place}
 pub record Applies (l : List ℕ) (at written : ℕ) (image buffer : List ℕ) : Type 0 where
   pub command : CommandAt l at
   pub long : length image ≡ 256
-  pub room : written + length (recordAt l at) ≤ length buffer
+  pub fits : written + length (recordAt l at) ≤ length buffer
 
 pub record Applied (l : List ℕ) (at written : ℕ) (image buffer : List ℕ) (p : Place) (image′ buffer′ : List ℕ) : Type 0 where
   pub place : p ≡ record { at = at + sizeAt l at; written = written + length (recordAt l at) }

@@ -96,7 +96,7 @@ fn apply_work(
     }
 }
 
-// One command of an accepted list.
+// One command of an accepted list: a setting goes to the image, any other gives a record.
 fn apply_command(
     list: &[u32],
     image: &mut [u32],
@@ -107,15 +107,15 @@ fn apply_command(
     requires { ⌜ Applies (now list) at written (now image) (now records) ⌝ }
     ensures { λ r. ⌜ Applied (now (list .entry)) at written (now (image .entry)) (now (records .entry)) r (now (image .exit)) (now (records .exit)) ⌝ }
 {
-    let kind = Settings::kind(words::id_of(words::fetch(list, at)));
-    if kind == Settings::GROUP {
-        set_group(list, image, at);
-        return Place {
-            at: at + 4,
-            written,
-        };
-    }
-    if kind == Settings::SINGLE {
+    let id = words::id_of(words::fetch(list, at));
+    if Settings::contains(id) {
+        if Settings::kind(id) == Settings::GROUP {
+            set_group(list, image, at);
+            return Place {
+                at: at + 4,
+                written,
+            };
+        }
         set_single(list, image, at);
         return Place {
             at: at + 1,

@@ -14,13 +14,13 @@ use lib.Count.{trailingZeros}
 use lib.Dec.{eqb, ltb}
 use lib.ListN.{length, getD, set, length-append, length-set}
 use lib.Pow.{high, low, shr-shr}
-use lib.Seq.{sets, set-getD, getD-set-same, getD-set-other}
+use lib.Seq.{sets, getD-set-same, getD-set-other}
 use borrow.Author.Tests.{eqb-true, eqb-false, eq-eqb, ne-eqb, lt-ltb, le-ltb}
 use Rattle.rules.specs.Word.{idOf, headerOf, firstWord}
 use Rattle.rules.specs.Table.{Row, size, settings}
 use Rattle.rules.specs.Command.{Command, words, wordsAll}
 use Rattle.rules.specs.Form.{read, equal, same, emit, differing}
-use Rattle.theory.proofs.Image.{sets-past, sets-append, equal-true, equal-refl, length-read}
+use Rattle.theory.proofs.Image.{sets-append, equal-true, equal-refl, length-read}
 use Rattle.theory.proofs.Rows.{setting-fits}
 use Rattle.rules.specs.Valid.{Valid}
 use Rattle.theory.proofs.Differing.{emit-cong}
@@ -69,15 +69,6 @@ module _ (more : ℕ) (l image latest : List ℕ) (k : ℕ) (o : Output) (w : �
       ap {B = Output} (λ x. record { written = o .written + suc more; sent = set (o .sent) k (getD latest k 0 + 1); out = x }) (eo ∙ ap (sets (o .out) (o .written)) e)
       ∙ chosen-is false f
 
-  -- the same where it is counted and nothing is written
-  pub emit-counted : o .out ≡ [] → (same : Bool) → same ≡ isBuilt more l image w rest (getD (o .sent) k 0) → (n place : ℕ)
-      → n ≡ cond same (o .written) (o .written + suc more) → place ≡ cond same (getD (o .sent) k 0) (getD latest k 0 + 1)
-      → record { written = n; sent = set (o .sent) k place; out = [] } ≡ emitOne more l image latest k o
-  emit-counted eo true f n place en ep =
-      rw (en, ep, set-getD (o .sent) k 0) (ap (λ (x : List ℕ). record { written = o .written; sent = o .sent; out = x }) (sym eo) ∙ emit-kept (sym f))
-  emit-counted eo false f n place en ep =
-      rw (en, ep) (emit-put (sym f) [] (sym (ap (λ (x : List ℕ). sets x (o .written) (w ∷ rest)) eo ∙ sets-past [] (o .written) (w ∷ rest) (omega arith))))
-
 -- the loop over the numbers of a set
 pub record ToEmit (more first : ℕ) (l image latest : List ℕ) (left₀ : ℕ) (o₀ : Output) (left : ℕ) (o : Output) : Type 0 where
   pub small : left < 2 ^ 64
@@ -113,6 +104,11 @@ pub emit-both : (changed : ℕ) (l image latest : List ℕ) (o o₁ o₂ : Outpu
     → o₂ ≡ emitEach 3 l image latest (numbers 64 16 (changed / 65536)) o₁ → o₂ ≡ emitChanged changed l image latest o
 unfolding emitChanged
 emit-both changed l image latest o o₁ o₂ e₁ e₂ = e₂ ∙ ap (emitEach 3 l image latest (numbers 64 16 (changed / 65536))) e₁
+
+-- where nothing is set nothing is put out
+pub emit-none : (changed : ℕ) (l image latest : List ℕ) (o : Output) → changed ≡ 0 → o ≡ emitChanged changed l image latest o
+unfolding emitChanged
+emit-none changed l image latest o e = rw (e, numbers-none 64 0, numbers-none 64 16)
 
 -- ---- one setting
 
@@ -275,10 +271,10 @@ module _ (l image₀ built image start latest : List ℕ) (changed : ℕ) where
     one : length l ≤ longest → length image₀ ≡ 256 → o .written ≤ longest → (more : ℕ) → ((r : Row) → settingOf k ≡ some r → length (r .more) ≡ more)
         → (q : Option Row) → settingOf k ≡ q → (b : Bool) → LatestAt l built image q b (getD latest k 0)
         → At (suc k) (so-far ++ put (rowList q)) (emitEach more l image₀ latest (cond b (k ∷ []) []) o) × CanEmitEach more l image₀ latest (cond b (k ∷ []) []) o
-    one few whole room more fit none e true h = let z : _≡_ {A = ℕ} 0 1 = cc in absurd (omega arith)
-    one few whole room more fit none e false h = (kept [] refl (λ r f. let z : none ≡ some r = sym e ∙ f in let y : _≡_ {A = ℕ} 0 1 = cc in absurd (omega arith)), tt)
-    one few whole room more fit (some r) e false h = (kept (r ∷ []) (rw (same-read r built image h)) (only r e (SameRead r e) h), tt)
-    one few whole room more fit (some r) e true h =
+    one few whole enough more fit none e true h = let z : _≡_ {A = ℕ} 0 1 = cc in absurd (omega arith)
+    one few whole enough more fit none e false h = (kept [] refl (λ r f. let z : none ≡ some r = sym e ∙ f in let y : _≡_ {A = ℕ} 0 1 = cc in absurd (omega arith)), tt)
+    one few whole enough more fit (some r) e false h = (kept (r ∷ []) (rw (same-read r built image h)) (only r e (SameRead r e) h), tt)
+    one few whole enough more fit (some r) e true h =
         let n = setting-of k r e in
         let m = fit r e in
         let i = set-id l image₀ built image r (getD latest k 0) 0 h in (
@@ -290,7 +286,7 @@ module _ (l image₀ built image start latest : List ℕ) (changed : ℕ) where
               inside = omega (arith, h .inside);
               in-image = omega (arith, setting-fits r (n .setting));
               sent-inside = omega (arith, sent-inside r e h (here r e));
-              fits = room;
+              fits = enough;
             },
             tt,
           ),
@@ -300,7 +296,7 @@ module _ (l image₀ built image start latest : List ℕ) (changed : ℕ) where
     abbrev Runs : ℕ → ℕ → List ℕ → Output → List ℕ → Type 0
     Runs n k so-far o ks = At (k + n) (so-far ++ put (settingsFrom n k)) (emitEach more l image₀ latest ks o) × CanEmitEach more l image₀ latest ks o
 
-    module _ (n k : ℕ) (so-far : List ℕ) (o : Output) (p : At k so-far o) (room : length (so-far ++ put (settingsFrom (suc n) k)) ≤ longest)
+    module _ (n k : ℕ) (so-far : List ℕ) (o : Output) (p : At k so-far o) (enough : length (so-far ++ put (settingsFrom (suc n) k)) ≤ longest)
         (fit : (r : Row) → settingOf k ≡ some r → length (r .more) ≡ more) where
       abbrev now : List ℕ
       now = so-far ++ put (rowList (settingOf k))
@@ -323,19 +319,19 @@ module _ (l image₀ built image start latest : List ℕ) (changed : ℕ) where
     run : (n k : ℕ) (so-far : List ℕ) (o : Output) → ((j : ℕ) (r : Row) → k ≤ j → j < k + n → settingOf j ≡ some r → length (r .more) ≡ more)
         → At k so-far o → length (so-far ++ put (settingsFrom n k)) ≤ longest → Runs n k so-far o (numbers n k (changed / 2 ^ k))
     unfolding numbers
-    run zero k so-far o fit p room = (rw (add-zero, append-nil) p, tt)
-    run (suc n) k so-far o fit p room =
+    run zero k so-far o fit p enough = (rw (add-zero, append-nil) p, tt)
+    run (suc n) k so-far o fit p enough =
         let half : changed / 2 ^ k / 2 ≡ changed / 2 ^ suc k = rw add-one at (shr-shr changed k 1) in
-        let e = whole-put n k so-far o p room (λ r. fit k r (omega arith) (omega arith)) in
-        rw half (run-one n k so-far o p room (λ r. fit k r (omega arith) (omega arith)) (numbers n (suc k) (changed / 2 ^ suc k))
-        (λ o′ p′. run n (suc k) (now n k so-far o p room (λ r. fit k r (omega arith) (omega arith))) o′ (λ j r a b. fit j r (omega arith) (omega arith)) p′ (rw e room))
+        let e = whole-put n k so-far o p enough (λ r. fit k r (omega arith) (omega arith)) in
+        rw half (run-one n k so-far o p enough (λ r. fit k r (omega arith) (omega arith)) (numbers n (suc k) (changed / 2 ^ suc k))
+        (λ o′ p′. run n (suc k) (now n k so-far o p enough (λ r. fit k r (omega arith) (omega arith))) o′ (λ j r a b. fit j r (omega arith) (omega arith)) p′ (rw e enough))
         (odd (changed / 2 ^ k)) (holds-at changed k))
 
   pub emit-all : length l ≤ longest → length image₀ ≡ 256 → Latest l built image changed latest → (so-far : List ℕ) (o : Output)
       → Progress l image₀ start (λ k. built) so-far o → length (so-far ++ put settings) ≤ longest
       → Progress l image₀ start (λ k. image) (so-far ++ put settings) (emitChanged changed l image₀ latest o) × CanEmitChanged changed l image₀ latest o
   unfolding emitChanged
-  emit-all few whole is so-far o p room =
+  emit-all few whole is so-far o p enough =
       let e : (so-far ++ put (settingsFrom 16 0)) ++ put (settingsFrom 64 16) ≡ so-far ++ put settings =
       put-append so-far (settingsFrom 16 0) (settingsFrom 64 16) ∙ ap (λ (x : List Row). so-far ++ put x) (sym settings-by-number) in
       let x : numbers 16 0 (changed / 1) ≡ numbers 64 0 (changed % 65536) =
@@ -344,7 +340,7 @@ module _ (l image₀ built image start latest : List ℕ) (changed : ℕ) where
       let a = run few whole is 0 16 0 so-far o (λ j r b c f. setting-of j r f .more ∙ rw (lt-ltb j 16 (omega arith))) p₀
       (omega (arith, ap length e, length-append (so-far ++ put (settingsFrom 16 0)) (put (settingsFrom 64 16)))) in
       let b = run few whole is 3 64 16 (so-far ++ put (settingsFrom 16 0)) (emitEach 0 l image₀ latest (numbers 16 0 (changed / 1)) o)
-      (λ j r b c f. setting-of j r f .more ∙ rw (le-ltb j 16 (omega arith))) (a .0) (rw e room) in
+      (λ j r b c f. setting-of j r f .more ∙ rw (le-ltb j 16 (omega arith))) (a .0) (rw e enough) in
       let q = rw (x, e) at (b .0) in (
         record { long = q .long; written-is = q .written-is; out-is = q .out-is; sent-is = λ k r f. rw (lt-ltb k 80 (omega (arith, setting-of k r f .small))) at (q .sent-is k r f) },
         record { singles = rw x at (a .1); groups = rw x at (b .1) },

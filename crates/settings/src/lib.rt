@@ -5,7 +5,6 @@
 // and where the command stands that the form last put out for it (`sent`: 0 never, else the position + 1). `changed` has a
 // bit for each setting set; rising bits are rising ids. A word past the end of a buffer is not written.
 ghost use mathlib.Core.Path.{_≡_};
-ghost use mathlib.Core.Bool.{cond};
 ghost use mathlib.Core.List.{[], _∷_};
 ghost use Prim.Native.Nat.{_+_, _/_, _%_, _<_, _≤_};
 ghost use lib.ListN.{length};
@@ -162,8 +161,8 @@ fn emit_groups(
     m
 }
 
-// A command for each setting that differs, in rising id.
-pub fn emit_changed(
+// A command for each setting of a set that differs, in rising id.
+fn emit_changed(
     changed: u64,
     list: &[u32],
     image: &[u32],
@@ -179,122 +178,21 @@ pub fn emit_changed(
     emit_groups(changed, list, image, latest, sent, out, m)
 }
 
-// ---- counted, not written: whether a setting differs is hard to predict, so no branch asks for it
-
-// Where the command stands that the form last put out, once one is put out or not.
-fn sent_after(same: bool, before: u16, at: usize) -> u16
-    requires { ⌜ at ≤ longest ⌝ }
-    ensures { λ r. ⌜ r ≡ cond same before (at + 1) ⌝ }
-{
-    if same { before } else { (at + 1) as u16 }
-}
-
-fn words_after(same: bool, n: usize, words: usize) -> usize
-    requires { ⌜ (n ≤ longest) × (words ≤ longest) ⌝ }
-    ensures { λ r. ⌜ r ≡ cond same n (n + words) ⌝ }
-{
-    if same { n } else { n + words }
-}
-
-// The setting of one word with a number.
-fn count_single(
-    list: &[u32],
-    image: &[u32],
-    latest: &[u16; 64],
-    sent: &mut [u16; 64],
-    n: usize,
-    i: u32,
-) -> usize
-    requires { ⌜ CanEmit 0 (now list) (now image) (now latest) i (record { written = n; sent = now sent; out = [] }) ⌝ }
-    ensures { λ r. ⌜ record { written = r; sent = now (sent .exit); out = [] } ≡ emitOne 0 (now (list .entry)) (now (image .entry)) (now (latest .entry)) i (record { written = n; sent = now (sent .entry); out = [] }) ⌝ }
-{
-    let k = i as usize;
-    let at = latest[k] as usize;
-    let w = words::fetch(list, at);
-    let before = sent[k];
-    let same = single_is_built(list, image, w, before as usize);
-    sent[k] = sent_after(same, before, at);
-    words_after(same, n, 1)
-}
-
-// The same of four words.
-fn count_group(
-    list: &[u32],
-    image: &[u32],
-    latest: &[u16; 64],
-    sent: &mut [u16; 64],
-    n: usize,
-    i: u32,
-) -> usize
-    requires { ⌜ CanEmit 3 (now list) (now image) (now latest) i (record { written = n; sent = now sent; out = [] }) ⌝ }
-    ensures { λ r. ⌜ record { written = r; sent = now (sent .exit); out = [] } ≡ emitOne 3 (now (list .entry)) (now (image .entry)) (now (latest .entry)) i (record { written = n; sent = now (sent .entry); out = [] }) ⌝ }
-{
-    let k = i as usize;
-    let at = latest[k] as usize;
-    let w = words::fetch(list, at);
-    let b = words::fetch(list, at + 1);
-    let c = words::fetch(list, at + 2);
-    let d = words::fetch(list, at + 3);
-    let before = sent[k];
-    let same = group_is_built(list, image, w, b, c, d, before as usize);
-    sent[k] = sent_after(same, before, at);
-    words_after(same, n, 4)
-}
-
-fn count_singles(
+// The same, where something changed. Asked here, most work commands are put out without a call.
+pub fn emit_settings(
     changed: u64,
     list: &[u32],
     image: &[u32],
     latest: &[u16; 64],
     sent: &mut [u16; 64],
+    out: &mut [u32],
     n: usize,
 ) -> usize
-    requires { ⌜ CanEmitEach 0 (now list) (now image) (now latest) (numbers 64 0 (changed % 65536)) (record { written = n; sent = now sent; out = [] }) ⌝ }
-    ensures { λ r. ⌜ record { written = r; sent = now (sent .exit); out = [] } ≡ emitEach 0 (now (list .entry)) (now (image .entry)) (now (latest .entry)) (numbers 64 0 (changed % 65536)) (record { written = n; sent = now (sent .entry); out = [] }) ⌝ }
+    requires { ⌜ CanEmitChanged changed (now list) (now image) (now latest) (record { written = n; sent = now sent; out = now out }) ⌝ }
+    ensures { λ r. ⌜ record { written = r; sent = now (sent .exit); out = now (out .exit) } ≡ emitChanged changed (now (list .entry)) (now (image .entry)) (now (latest .entry)) (record { written = n; sent = now (sent .entry); out = now (out .entry) }) ⌝ }
 {
-    let mut m = n;
-    let mut left = changed % 65536;
-    while left != 0 {
-        let i = u64::trailing_zeros(left);
-        left = left & (left - 1);
-        m = count_single(list, image, latest, sent, m, i);
+    if changed == 0 {
+        return n;
     }
-    m
-}
-
-fn count_groups(
-    changed: u64,
-    list: &[u32],
-    image: &[u32],
-    latest: &[u16; 64],
-    sent: &mut [u16; 64],
-    n: usize,
-) -> usize
-    requires { ⌜ CanEmitEach 3 (now list) (now image) (now latest) (numbers 64 16 (changed / 65536)) (record { written = n; sent = now sent; out = [] }) ⌝ }
-    ensures { λ r. ⌜ record { written = r; sent = now (sent .exit); out = [] } ≡ emitEach 3 (now (list .entry)) (now (image .entry)) (now (latest .entry)) (numbers 64 16 (changed / 65536)) (record { written = n; sent = now (sent .entry); out = [] }) ⌝ }
-{
-    let mut m = n;
-    let mut left = changed >> 16;
-    while left != 0 {
-        let i = u64::trailing_zeros(left);
-        left = left & (left - 1);
-        m = count_group(list, image, latest, sent, m, i + 16);
-    }
-    m
-}
-
-// The words of what differs.
-pub fn count_changed(
-    changed: u64,
-    list: &[u32],
-    image: &[u32],
-    latest: &[u16; 64],
-    sent: &mut [u16; 64],
-    n: usize,
-) -> usize
-    requires { ⌜ CanEmitChanged changed (now list) (now image) (now latest) (record { written = n; sent = now sent; out = [] }) ⌝ }
-    ensures { λ r. ⌜ record { written = r; sent = now (sent .exit); out = [] } ≡ emitChanged changed (now (list .entry)) (now (image .entry)) (now (latest .entry)) (record { written = n; sent = now (sent .entry); out = [] }) ⌝ }
-{
-    let m = count_singles(changed, list, image, latest, sent, n);
-    count_groups(changed, list, image, latest, sent, m)
+    emit_changed(changed, list, image, latest, sent, out, n)
 }

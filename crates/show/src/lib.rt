@@ -177,7 +177,7 @@ pub fn put_show(text: &mut [u8], list: &[u32], image: &[u32; 256]) -> usize
     if a.verdict != 0 {
         return verdict::put_verdict(text, a, list, &[], 1024);
     }
-    let m = measurer::measure(list, image);
+    let m = form::measure(list, image);
     let k = a.words;
     put_accepted(text, a, image, &after, &records[..k], m.words)
 }

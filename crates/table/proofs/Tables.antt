@@ -1,10 +1,10 @@
 -- The rows and the tests on ids hold document 01's table: one test over all ids, computed once, and the facts read off it.
-use Prim.Native.Nat.{ℕ, zero, suc, _+_, _≤_, _<_}
+use Prim.Native.Nat.{ℕ, zero, suc, _+_, _*_, _/_, _%_, _≤_, _<_}
 use native.Mathlib.Nat.{add-zero, zero-add, add-suc, suc-add, le-of-suc-le-suc, not-suc-le-zero}
 use native.Mathlib.Omega.{arith}
 use mathlib.Core.Path.{_≡_, refl, ap, sym, _∙_}
 use mathlib.Core.Bool.{Bool, true, false, cond, not, _&&_, _||_}
-use mathlib.Core.List.{List, _∷_}
+use mathlib.Core.List.{List}
 use mathlib.Core.Option.{Option, none, some}
 use lib.Dec.{eqb, leb, ltb}
 use borrow.Author.Tests.{eqb-true, ltb-true, not-true}
@@ -13,16 +13,15 @@ use Rattle.rules.specs.Table.{Kind, setting, plain, keeps, begins, Row, table, 
 use Rattle.rules.specs.Form.{equal}
 use Rattle.theory.proofs.Bools.{and-left, and-right}
 use Rattle.theory.proofs.Image.{equal-true}
-use Rattle.table.specs.declared.Group.{Group}
 use Rattle.table.specs.Ids.{beginId, settingId, groupId, settingKind}
-use Rattle.table.specs.Tables.{baseRow, timerRow, beginRow, clipRow, values, rowNumber, rowTable, orUnknown, rowAt, masksOf, more, rowMasks}
+use Rattle.table.specs.Tables.{baseRow, timerRow, beginRow, clipRow, rowCount, tabulate, rowNumber, rowTable, orUnknown, rowAt, masksOf, maskAt, rowMasks, maskTable}
 
 -- ---- a table of a rule's values, and a test at each of its numbers
 
-values-from : (n i : ℕ) (f : ℕ → ℕ) (k : ℕ) → k < n → getD (values n i f) k 0 ≡ f (i + k)
-values-from zero i f k h = absurd (not-suc-le-zero h)
-values-from (suc n) i f zero h = ap f (sym (add-zero i))
-values-from (suc n) i f (suc k) h = values-from n (suc i) f k (le-of-suc-le-suc h) ∙ ap f (suc-add i k ∙ sym (add-suc i k))
+tabulate-from : (n i : ℕ) (f : ℕ → ℕ) (k : ℕ) → k < n → getD (tabulate n i f) k 0 ≡ f (i + k)
+tabulate-from zero i f k h = absurd (not-suc-le-zero h)
+tabulate-from (suc n) i f zero h = ap f (sym (add-zero i))
+tabulate-from (suc n) i f (suc k) h = tabulate-from n (suc i) f k (le-of-suc-le-suc h) ∙ ap f (suc-add i k ∙ sym (add-suc i k))
 
 abbrev pub every : ℕ → ℕ → (ℕ → Bool) → Bool
 every zero i f = true
@@ -74,18 +73,15 @@ leavesAs plain id = not (keptId id)
 leavesAs keeps id = keptId id && not (beginId id)
 leavesAs begins id = keptId id && beginId id
 
-abbrev listOf : Group → List ℕ
-listOf g = g .header ∷ more g
-
 idFits : ℕ → Bool
 idFits id = same (beginId id) (beginTest id) && (eqb (settingKind id) (kindTest id) && same (groupId id) (groupTest id))
 
--- of a known id: its row is below 16, with the row's masks and its size; four words where values have rules; its kind and
+-- of a known id: its row is one of them, with the row's masks and its size; four words where values have rules; its kind and
 -- what it leaves by its row; a BEGIN has four words, and a surface base one
 rowFits : ℕ → Option Row → Bool
-rowFits id none = eqb (rowNumber id) 16
+rowFits id none = eqb (rowNumber id) rowCount
 rowFits id (some r) =
-    (eqb (r .id) id && ltb (rowNumber id) 16) && (equal (listOf (rowMasks (rowNumber id))) (listOf (masksOf r)) && (eqb (length (r .more)) (cond (groupId id) 3 0)
+    (eqb (r .id) id && ltb (rowNumber id) rowCount) && (equal (rowMasks (rowNumber id)) (masksOf r) && (eqb (length (r .more)) (cond (groupId id) 3 0)
     && ((not (ruled id) || groupId id) && (same (groupId id) (knownGroupTest id) && (same (isSetting (r .kind)) (leb (cond (groupId id) clipRow timerRow) (rowNumber id))
     && (leavesAs (r .kind) id && (same (isBegin (r .kind)) (eqb (rowNumber id) beginRow)
     && (same (isBase id) (eqb (rowNumber id) baseRow) && not (cond (groupId id) (isBase id) (isBegin (r .kind)))))))))))
@@ -94,16 +90,16 @@ fitsAt : ℕ → Bool
 fitsAt id = idFits id && rowFits id (rowOf id)
 
 all-fit : every 256 0 fitsAt ≡ true
-unfolding fitsAt idFits rowFits rowNumber rowOf table rowMasks rowAt isBase beginId settingKind settingId groupId
+unfolding fitsAt idFits rowFits rowNumber rowOf table maskAt rowAt isBase beginId settingKind settingId groupId
 all-fit = refl
 
 -- ---- what it says
 
 pub record Known (id : ℕ) : Type 0 where
-  pub small : rowNumber id < 16
+  pub small : rowNumber id < rowCount
   pub found : rowOf id ≡ some (rowAt id)
   pub own-id : rowAt id .id ≡ id
-  pub masks : listOf (rowMasks (rowNumber id)) ≡ listOf (masksOf (rowAt id))
+  pub masks : rowMasks (rowNumber id) ≡ masksOf (rowAt id)
   pub length-more : length (rowAt id .more) ≡ cond (groupId id) 3 0
   pub one-word : groupId id ≡ false → ruled id ≡ false
   pub group : groupId id ≡ knownGroupTest id
@@ -127,9 +123,9 @@ module _ (id : ℕ) where
   row-known r e t₀ =
       let n : ℕ = rowNumber id in
       let is : orUnknown (rowOf id) ≡ r = ap orUnknown e in
-      let p : (eqb (r .id) id && ltb n 16) ≡ true = and-left _ _ t₀ in
-      let t₁ = and-right (eqb (r .id) id && ltb n 16) _ t₀ in
-      let t₂ = and-right (equal (listOf (rowMasks n)) (listOf (masksOf r))) _ t₁ in
+      let p : (eqb (r .id) id && ltb n rowCount) ≡ true = and-left _ _ t₀ in
+      let t₁ = and-right (eqb (r .id) id && ltb n rowCount) _ t₀ in
+      let t₂ = and-right (equal (rowMasks n) (masksOf r)) _ t₁ in
       let t₃ = and-right (eqb (length (r .more)) (cond (groupId id) 3 0)) _ t₂ in
       let t₄ = and-right (not (ruled id) || groupId id) _ t₃ in
       let t₅ = and-right (same (groupId id) (knownGroupTest id)) _ t₄ in
@@ -137,10 +133,10 @@ module _ (id : ℕ) where
       let t₇ = and-right (leavesAs (r .kind) id) _ t₆ in
       let t₈ = and-right (same (isBegin (r .kind)) (eqb n beginRow)) _ t₇ in
       record {
-        small = ltb-true n 16 (and-right (eqb (r .id) id) _ p);
+        small = ltb-true n rowCount (and-right (eqb (r .id) id) _ p);
         found = e ∙ ap some (sym is);
-        own-id = ap (λ (x : Row). x .id) is ∙ eqb-true (r .id) id (and-left (eqb (r .id) id) (ltb n 16) p);
-        masks = equal-true (listOf (rowMasks n)) (listOf (masksOf r)) (and-left (equal (listOf (rowMasks n)) (listOf (masksOf r))) _ t₁) ∙ ap (λ (x : Row). listOf (masksOf x)) (sym is);
+        own-id = ap (λ (x : Row). x .id) is ∙ eqb-true (r .id) id (and-left (eqb (r .id) id) (ltb n rowCount) p);
+        masks = equal-true (rowMasks n) (masksOf r) (and-left (equal (rowMasks n) (masksOf r)) _ t₁) ∙ ap (λ (x : Row). masksOf x) (sym is);
         length-more = ap (λ (x : Row). length (x .more)) is ∙ eqb-true _ _ (and-left (eqb (length (r .more)) (cond (groupId id) 3 0)) _ t₂);
         one-word = unruled (ruled id) (groupId id) (and-left (not (ruled id) || groupId id) _ t₃);
         group = same-true (groupId id) (knownGroupTest id) (and-left (same (groupId id) (knownGroupTest id)) _ t₄);
@@ -151,12 +147,12 @@ module _ (id : ℕ) where
         apart = ap (λ (x : Row). cond (groupId id) (isBase id) (isBegin (x .kind))) is ∙ not-true (cond (groupId id) (isBase id) (isBegin (r .kind))) (and-right (same (isBase id) (eqb n baseRow)) _ t₈);
       }
 
-  by-row : (o : Option Row) → rowOf id ≡ o → rowFits id o ≡ true → rowNumber id < 16 → Known id
+  by-row : (o : Option Row) → rowOf id ≡ o → rowFits id o ≡ true → rowNumber id < rowCount → Known id
   unfolding rowFits
-  by-row none e t h = let z = eqb-true (rowNumber id) 16 t in absurd (omega arith)
+  by-row none e t h = let z = eqb-true (rowNumber id) rowCount t in absurd (omega arith)
   by-row (some r) e t h = row-known r e t
 
-  past-rows : (o : Option Row) → rowOf id ≡ o → rowFits id o ≡ true → 16 ≤ rowNumber id → rowOf id ≡ none
+  past-rows : (o : Option Row) → rowOf id ≡ o → rowFits id o ≡ true → rowCount ≤ rowNumber id → rowOf id ≡ none
   past-rows none e t h = e
   past-rows (some r) e t h = let k = row-known r e t in absurd (omega (arith, k .small))
 
@@ -168,19 +164,19 @@ module _ (id : ℕ) where
     tests : idFits id ≡ true
     tests = and-left (idFits id) (rowFits id (rowOf id)) test
 
-    pub known : rowNumber id < 16 → Known id
+    pub known : rowNumber id < rowCount → Known id
     known k = by-row (rowOf id) refl (and-right (idFits id) (rowFits id (rowOf id)) test) k
 
     pub known-row : (r : Row) → rowOf id ≡ some r → Known id
     known-row r e = row-known r e (ap (rowFits id) (sym e) ∙ and-right (idFits id) (rowFits id (rowOf id)) test)
 
     -- one that has none
-    pub unknown-row : 16 ≤ rowNumber id → rowOf id ≡ none
+    pub unknown-row : rowCount ≤ rowNumber id → rowOf id ≡ none
     unknown-row k = past-rows (rowOf id) refl (and-right (idFits id) (rowFits id (rowOf id)) test) k
 
     pub row-at : (l : List ℕ) → l ≡ rowTable → getD l id 0 ≡ rowNumber id
     unfolding rowTable
-    row-at l e = ap (λ (m : List ℕ). getD m id 0) e ∙ values-from 256 0 rowNumber id h ∙ ap rowNumber (zero-add id)
+    row-at l e = ap (λ (m : List ℕ). getD m id 0) e ∙ tabulate-from 256 0 rowNumber id h ∙ ap rowNumber (zero-add id)
 
     -- every id, known or not
     pub begin-is : beginTest id ≡ beginId id
@@ -208,3 +204,12 @@ kind-of false g = refl
 pub setting-is : (id : ℕ) → not (eqb (settingKind id) 0) ≡ settingId id
 unfolding settingKind
 setting-is id = kind-of (settingId id) (groupId id)
+
+-- the masks lent, by row and word
+pub mask-is : (masks : List ℕ) (row word : ℕ) → masks ≡ maskTable → row < rowCount → word < 4 → getD masks (row * 4 + word) 0 ≡ maskAt row word
+unfolding maskTable
+mask-is masks row word e h w =
+    let i : ℕ = row * 4 + word in
+    let at : (0 + i) / 4 ≡ row = omega arith in
+    let of : (0 + i) % 4 ≡ word = omega arith in
+    ap (λ (ms : List ℕ). getD ms i 0) e ∙ tabulate-from (rowCount * 4) 0 (λ k. maskAt (k / 4) (k % 4)) i (omega arith) ∙ rw (at, of)

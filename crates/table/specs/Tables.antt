@@ -1,5 +1,5 @@
--- The rows of document 01's table by their numbers: the table that a caller lends, and the masks by row and word.
-use Prim.Native.Nat.{ℕ, zero, suc, _+_}
+-- The rows of document 01's table by their numbers, and the masks by row and word: the two tables that a caller lends.
+use Prim.Native.Nat.{ℕ, zero, suc, _+_, _*_, _/_, _%_}
 use mathlib.Core.Bool.{Bool, false, cond, _||_}
 use mathlib.Core.List.{List, [], _∷_}
 use mathlib.Core.Option.{Option, none, some}
@@ -30,6 +30,10 @@ rowIds =
     ∷ (0xC4 ∷ [])
     ∷ []
 
+-- how many rows there are
+abbrev pub rowCount : ℕ
+rowCount = 16
+
 -- the rows that are asked for by number: the surface bases, the first setting of one word, BEGIN, the first of four
 abbrev pub baseRow : ℕ
 baseRow = 4
@@ -51,18 +55,18 @@ abbrev pub rowIn : List (List ℕ) → ℕ → ℕ
 rowIn [] id = zero
 rowIn (ids ∷ rest) id = cond (has ids id) zero (suc (rowIn rest id))
 
--- the number of the row that has an id, 16 where none has
+-- the number of the row that has an id, `rowCount` where none has
 unfoldable pub rowNumber : ℕ → ℕ
 rowNumber id = rowIn rowIds id
 
--- the values of a rule at the n numbers from i on
-abbrev pub values : ℕ → ℕ → (ℕ → ℕ) → List ℕ
-values zero i f = []
-values (suc n) i f = f i ∷ values n (suc i) f
+-- what a rule gives for the n numbers from i on
+abbrev pub tabulate : ℕ → ℕ → (ℕ → ℕ) → List ℕ
+tabulate zero i f = []
+tabulate (suc n) i f = f i ∷ tabulate n (suc i) f
 
 unfoldable pub rowTable : List ℕ
 unfolding rowNumber
-rowTable = values 256 0 rowNumber
+rowTable = tabulate 256 0 rowNumber
 
 abbrev pub orUnknown : Option Row → Row
 orUnknown none = record { id = 0; mask = 0; more = []; kind = plain }
@@ -77,8 +81,21 @@ rowAt id = orUnknown (rowOf id)
 abbrev pub maskOf : Row → ℕ → ℕ
 maskOf r word = getD (r .mask ∷ r .more) word 0xFFFFFFFF
 
-abbrev pub masksOf : Row → Group
-masksOf r = record { header = maskOf r 0; second = maskOf r 1; third = maskOf r 2; fourth = maskOf r 3 }
+abbrev pub masksOf : Row → List ℕ
+masksOf r = maskOf r 0 ∷ maskOf r 1 ∷ maskOf r 2 ∷ maskOf r 3 ∷ []
+
+-- the same by the number of the row
+unfoldable pub maskAt : ℕ → ℕ → ℕ
+unfolding rowAt
+maskAt row word = maskOf (rowAt (getD (getD rowIds row []) 0 0)) word
+
+abbrev pub rowMasks : ℕ → List ℕ
+rowMasks row = maskAt row 0 ∷ maskAt row 1 ∷ maskAt row 2 ∷ maskAt row 3 ∷ []
+
+-- all of them, four to a row
+unfoldable pub maskTable : List ℕ
+unfolding maskAt
+maskTable = tabulate (rowCount * 4) 0 (λ i. maskAt (i / 4) (i % 4))
 
 -- a group's words after the first
 abbrev pub more : Group → List ℕ
@@ -87,8 +104,3 @@ more g = g .second ∷ g .third ∷ g .fourth ∷ []
 -- the group whose first word stands at a position of a list
 abbrev pub groupAt : List ℕ → ℕ → Group
 groupAt l at = record { header = headerOf (getD l at 0); second = getD l (at + 1) 0; third = getD l (at + 2) 0; fourth = getD l (at + 3) 0 }
-
--- the masks of a row by its number
-unfoldable pub rowMasks : ℕ → Group
-unfolding rowAt
-rowMasks n = masksOf (rowAt (getD (getD rowIds n []) 0 0))

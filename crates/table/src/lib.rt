@@ -2,10 +2,11 @@
 //
 // The table of rows is made once for a whole list and lent: a `const` array is built again at each use.
 ghost use mathlib.Core.Path.{_≡_};
+ghost use lib.ListN.{replicate};
 ghost use Rattle.table.specs.Ids.{beginId, settingKind, settingId, groupId};
-ghost use Rattle.table.specs.Tables.{rowTable};
+ghost use Rattle.table.specs.Tables.{rowCount, rowTable};
 
-// The own words of a command of four words, or their masks: the header, and the next three words.
+// The own words of a command of four words: the header, and the next three words.
 pub struct Group {
     pub header: u32,
     pub second: u32,
@@ -49,13 +50,18 @@ pub const DEPTH: u8 = 14;
 
 pub const LOD_BIAS: u8 = 15;
 
-pub const UNKNOWN: u8 = 16;
+// How many rows there are.
+pub const ROWS: u8 = 16;
 
-// The row of each id.
-pub fn row_table() -> [u8; 256]
-    ensures { λ r. ⌜ r ≡ rowTable ⌝ }
+// The row of an id that the table does not have.
+pub const UNKNOWN: u8 = ROWS;
+
+// The row of each id, in a table where all are unknown. The caller has the table: returned from here, the compiler would
+// store it in many small pieces.
+pub fn fill_rows(rows: &mut [u8; 256])
+    requires { ⌜ now rows ≡ replicate 256 rowCount ⌝ }
+    ensures { λ _. ⌜ now (rows .exit) ≡ rowTable ⌝ }
 {
-    let mut rows = [UNKNOWN; 256];
     rows[0x00] = FLUSH;
     rows[0x01] = RESET;
     rows[0x02] = TIMER;
@@ -80,7 +86,6 @@ pub fn row_table() -> [u8; 256]
     rows[0x8C] = POLYGON_OFFSET;
     rows[0x90] = DEPTH;
     rows[0xC4] = LOD_BIAS;
-    rows
 }
 
 // ---- ids: each function is right for every id, unknown ones included

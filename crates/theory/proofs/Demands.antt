@@ -367,7 +367,7 @@ pairs-come-back image ps list pairs z long =
 pub same-pairs-same-list : (image ws us pairs pairs′ : List ℕ) → toPci ws image pairs .answer .verdict ≡ 0 → toPci us image pairs′ .answer .verdict ≡ 0
     → written (toPci ws image pairs) ≡ written (toPci us image pairs′) → ws ≡ us
 same-pairs-same-list image ws us pairs pairs′ y z e =
-    let room : List ℕ = ws ++ us in
-    let back = list-comes-back image ws pairs room y (omega (arith, length-append ws us)) .1 in
-    let back′ = list-comes-back image us pairs′ room z (omega (arith, length-append ws us)) .1 in
-    sym back ∙ ap (λ (ps : List ℕ). written (fromPci ps image room)) e ∙ back′
+    let lent : List ℕ = ws ++ us in
+    let back = list-comes-back image ws pairs lent y (omega (arith, length-append ws us)) .1 in
+    let back′ = list-comes-back image us pairs′ lent z (omega (arith, length-append ws us)) .1 in
+    sym back ∙ ap (λ (ps : List ℕ). written (fromPci ps image lent)) e ∙ back′

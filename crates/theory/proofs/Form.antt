@@ -46,7 +46,7 @@ is-setting begins e = cc
 -- a statement on lists of valid commands, from the three cases of a list
 module _ (P : List ℕ → List ℕ → List Command → Type 0)
     (nil : (fi im : List ℕ) → Near fi im → P fi im [])
-    (set : (fi im : List ℕ) (c : Command) (cs : List Command) → Near fi im → Valid c → Setting (c .row) → isSetting (c .row .kind) ≡ true
+    (keep : (fi im : List ℕ) (c : Command) (cs : List Command) → Near fi im → Valid c → Setting (c .row) → isSetting (c .row .kind) ≡ true
     → AllValid cs → Near fi (apply c im) → P fi (apply c im) cs → P fi im (c ∷ cs))
     (work : (fi im : List ℕ) (c : Command) (cs : List Command) → Near fi im → Valid c → isSetting (c .row .kind) ≡ false
     → AllValid cs → P (apply c im) (apply c im) cs → P fi im (c ∷ cs)) where
@@ -55,7 +55,7 @@ module _ (P : List ℕ → List ℕ → List Command → Type 0)
   by-cases fi im (c ∷ cs) n v =
       (elim (isSetting (c .row .kind)) as (λ t. isSetting (c .row .kind) ≡ t → P fi im (c ∷ cs)) [
         | true ↦ λ e. let s = valid-setting c (v .0) (is-setting (c .row .kind) e) in
-            set fi im c cs n (v .0) s e (v .1) (near-setting fi im c n (v .0) s)
+            keep fi im c cs n (v .0) s e (v .1) (near-setting fi im c n (v .0) s)
             (by-cases fi (apply c im) cs (near-setting fi im c n (v .0) s) (v .1))
         | false ↦ λ e. work fi im c cs n (v .0) e (v .1)
             (by-cases (apply c im) (apply c im) cs (near-refl (apply c im) (length-apply c im ∙ n .long-im)) (v .1))

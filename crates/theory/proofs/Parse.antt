@@ -11,7 +11,6 @@ use lib.Dec.{eqb, ltb}
 use lib.Pow.{split, high, low, pow-pos}
 use borrow.Author.Tests.{eqb-true, eq-eqb, not-false, ltb-false, le-ltb}
 use lib.ListN.{length, take, drop, take-append-drop}
-use lib.Seq.{drop-at}
 use Rattle.rules.specs.Word.{idOf, headerOf, firstWord}
 use Rattle.rules.specs.Table.{Row, table, find, rowOf}
 use Rattle.rules.specs.Command.{Command, wordsAll, restSize}
@@ -115,7 +114,7 @@ onward-parses s p w ws go all ih (took c t) es e = then-parses (go t (length (c 
         let ea : c ∷ cs ≡ all = cc in
         subst (λ (l : List Command). Parses s (w ∷ ws) l) ea whole
 
-pub walk-parses : (s : State) (p k : ℕ) (ws : List ℕ) (cs : List Command) → walk s p k ws ≡ accepted cs → k ≤ length ws → Parses s (drop k ws) cs
+walk-parses : (s : State) (p k : ℕ) (ws : List ℕ) (cs : List Command) → walk s p k ws ≡ accepted cs → k ≤ length ws → Parses s (drop k ws) cs
 unfolding walk
 walk-parses s p zero [] cs e h =
     let ec : [] ≡ cs = cc in
@@ -136,21 +135,6 @@ walk-words s p [] v f = refl
 walk-words s p (c ∷ cs) v f =
     ap (onward p (λ t k. walk t (suc p) k (c .rest ++ wordsAll cs))) (step-words s c (wordsAll cs) (v .0) (f .0))
     ∙ ap (andThen c) (walk-skip (next s c) (suc p) (c .rest) (wordsAll cs) ∙ walk-words (next s c) (suc p + length (c .rest)) cs (v .1) (f .1))
-
--- valid commands are fixed by their words
-pub same-words : (cs ds : List Command) → AllValid cs → AllValid ds → wordsAll cs ≡ wordsAll ds → cs ≡ ds
-same-words [] [] v u e = refl
-same-words [] (d ∷ ds) v u e = let z : _≡_ {A = ℕ} 0 1 = cc in absurd (omega arith)
-same-words (c ∷ cs) [] v u e = let z : _≡_ {A = ℕ} 0 1 = cc in absurd (omega arith)
-same-words (c ∷ cs) (d ∷ ds) v u e =
-    let first : firstWord (c .row .id) (c .header) ≡ firstWord (d .row .id) (d .header) = cc in
-    let rest : c .rest ++ wordsAll cs ≡ d .rest ++ wordsAll ds = cc in
-    let same : good c ≡ good d = sym (decode-words c (wordsAll cs) (v .0)) ∙ ap₂ decode first rest ∙ decode-words d (wordsAll ds) (u .0) in
-    let cd : c ≡ d = cc in
-    let n : length (c .rest) ≡ length (d .rest) = ap (λ (x : Command). length (x .rest)) cd in
-    let later : wordsAll cs ≡ wordsAll ds =
-    sym (drop-at (c .rest) (wordsAll cs) (length (c .rest)) refl) ∙ ap₂ (λ (k : ℕ) (l : List ℕ). drop k l) n rest ∙ drop-at (d .rest) (wordsAll ds) (length (d .rest)) refl in
-    ap₂ {C = List Command} (λ x xs. x ∷ xs) cd (same-words cs ds (v .1) (u .1) later)
 
 -- the whole list
 pub sized-accepted : (a b : Bool) (x : Parsed) (cs : List Command) → sized a b x ≡ accepted cs → (a ≡ false) × (b ≡ false) × (x ≡ accepted cs)

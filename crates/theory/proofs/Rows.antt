@@ -184,14 +184,14 @@ outsideOk begins id = not (insideAny settings 0x08)
 rowOutside : Row → Bool
 rowOutside r = outsideOk (r .kind) (r .id)
 
-outside : (r : Row) → rowOf (r .id) ≡ some r → outsideOk (r .kind) (r .id) ≡ true
+row-outside : (r : Row) → rowOf (r .id) ≡ some r → outsideOk (r .kind) (r .id) ≡ true
 unfolding outsideOk rowOutside rowOf table settings inside insideAny
-outside r e = found-passes rowOutside table (r .id) r refl e
+row-outside r e = found-passes rowOutside table (r .id) r refl e
 
 pub keeps-outside : (r : Row) → rowOf (r .id) ≡ some r → r .kind ≡ keeps → insideAny settings (r .id) ≡ false
 unfolding outsideOk
-keeps-outside r e k = not-true (insideAny settings (r .id)) (ap (λ (t : Kind). outsideOk t (r .id)) (sym k) ∙ outside r e)
+keeps-outside r e k = not-true (insideAny settings (r .id)) (ap (λ (t : Kind). outsideOk t (r .id)) (sym k) ∙ row-outside r e)
 
 pub begins-outside : (r : Row) → rowOf (r .id) ≡ some r → r .kind ≡ begins → insideAny settings 0x08 ≡ false
 unfolding outsideOk
-begins-outside r e k = not-true (insideAny settings 0x08) (ap (λ (t : Kind). outsideOk t (r .id)) (sym k) ∙ outside r e)
+begins-outside r e k = not-true (insideAny settings 0x08) (ap (λ (t : Kind). outsideOk t (r .id)) (sym k) ∙ row-outside r e)

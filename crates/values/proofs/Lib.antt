@@ -1,1 +1,1 @@
-mod Load
+pub mod Broken

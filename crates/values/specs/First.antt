@@ -6,11 +6,11 @@ use Rattle.rules.specs.declared.Refusal.{Refusal}
 use Rattle.rules.specs.Values.{refusal, Fault}
 use Rattle.values.specs.declared.Faults.{Faults}
 
-abbrev pub none : Refusal
-none = refusal 0 0
+abbrev pub noRefusal : Refusal
+noRefusal = refusal 0 0
 
 abbrev pub firstRefusal : List Fault → Refusal
-firstRefusal [] = none
+firstRefusal [] = noRefusal
 firstRefusal (f ∷ fs) = cond (f .found) (f .why) (firstRefusal fs)
 
 -- there is one

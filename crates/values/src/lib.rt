@@ -2,8 +2,8 @@
 use table::Group;
 ghost use mathlib.Core.Path.{_≡_};
 ghost use mathlib.Core.Bool.{cond};
-ghost use Rattle.rules.specs.Values.{refusal, loadFaults, primitiveFaults, clipFaults, rasterFaults, pageLimit};
-ghost use Rattle.values.specs.First.{firstRefusal, firstOf};
+ghost use Rattle.rules.specs.Values.{pageLimit};
+ghost use Rattle.values.specs.Broken.{loadBroken, primitiveBroken, clipBroken, rasterBroken};
 
 // The rules on values that a command breaks: an illegal value in each of its words, and the number of its first clash, 0
 // where there is none.
@@ -17,13 +17,13 @@ pub struct Faults {
 
 // The number of a clash where it is found, else that of the next.
 fn clash(found: bool, number: u32, next: u32) -> u32
-    ensures { λ r. ⌜ refusal r 0 ≡ cond found (refusal number 0) (refusal next 0) ⌝ }
+    ensures { λ r. ⌜ r ≡ cond found number next ⌝ }
 {
     if found { number } else { next }
 }
 
 pub fn load_faults(g: Group) -> Faults
-    ensures { λ r. ⌜ firstOf r ≡ firstRefusal (loadFaults (g .header) (g .second) (g .third) (g .fourth)) ⌝ }
+    ensures { λ r. ⌜ r ≡ loadBroken g ⌝ }
 {
     let code = (g.header >> 20) % 8;
     let floats = (g.header >> 23) % 2;
@@ -40,7 +40,7 @@ pub fn load_faults(g: Group) -> Faults
 }
 
 pub fn primitive_faults(g: Group) -> Faults
-    ensures { λ r. ⌜ firstOf r ≡ firstRefusal (primitiveFaults (g .header) (g .second) (g .third) (g .fourth)) ⌝ }
+    ensures { λ r. ⌜ r ≡ primitiveBroken g ⌝ }
 {
     Faults {
         first: g.header != 0,
@@ -62,7 +62,7 @@ fn page_limit(bank: u32) -> u32
 }
 
 pub fn clip_faults(g: Group) -> Faults
-    ensures { λ r. ⌜ firstOf r ≡ firstRefusal (clipFaults (g .second) (g .third)) ⌝ }
+    ensures { λ r. ⌜ r ≡ clipBroken g ⌝ }
 {
     let bank = (g.second >> 28) % 4;
     let most = (g.third >> 28) % 16;
@@ -78,7 +78,7 @@ pub fn clip_faults(g: Group) -> Faults
 }
 
 pub fn raster_faults(g: Group) -> Faults
-    ensures { λ r. ⌜ firstOf r ≡ firstRefusal (rasterFaults (g .header)) ⌝ }
+    ensures { λ r. ⌜ r ≡ rasterBroken g ⌝ }
 {
     let bits = ((g.header >> 22) % 2 == 0) & ((g.header >> 14) % 2 == 1);
     Faults {

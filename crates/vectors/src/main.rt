@@ -101,7 +101,7 @@ fn call(function: usize, list: &[u32], image: &mut [u32], buffer: &mut [u32]) ->
         READER => reader::read(list, image, buffer),
         NORMALISER => form::normalise(list, image, buffer),
         TO_PCI => pci_writer::to_pci(list, image, buffer),
-        MEASURER => measurer::measure(list, image),
+        MEASURER => form::measure(list, image),
         _ => pci_reader::from_pci(list, image, buffer),
     }
 }

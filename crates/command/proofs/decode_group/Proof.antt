@@ -26,8 +26,14 @@ returns-3 c =
     let a = c .before .before .before .before .before .before .before .before .before in
     c .refused-fault2 .ensures ∙ sym (value-fault _ _ _ _ (a .pre .0) (a .fits .id .fits) (a .pre .1) (c .before .before .before .before .before .before .before .if1 .left) _ (c .before .before .before .before .before .before .group-at .ensures) (c .before .before .before .bad-values .ensures) (c .before .before .if3 .taken) _ (c .before .first-fault2 .ensures))
 
+add-if1 : tie.Need-add-if1
+add-if1 c = omega (arith, c .before .pre .0 .inside, c .before .good)
+
 add-if5 : tie.Need-add-if5
 add-if5 c = record { fits = omega (arith, payload-few _ _ _ _ (c .before .payload .ensures)) }
+
+add-if5-2 : tie.Need-add-if5-2
+add-if5-2 c = omega (arith, payload-few _ _ _ _ (c .before .payload .ensures), c .before .before .before .before .before .before .before .if1 .left, c .before .before .before .before .before .before .before .before .before .good)
 
 returns-4 : tie.Need-returns-4
 returns-4 c =
@@ -50,4 +56,4 @@ returns-6 c =
 
 pub decode-group-spec : {M : Type 1} → statement M
 decode-group-spec = tie.close
-    (tie.spec (λ c. search needs) (λ c κs. search needs) returns (λ c κs. search needs) (λ c κs. search needs) (λ c κs. search needs) fault-requires returns-2 (λ c κs. search needs) (λ c κs. search needs) fault-requires-2 returns-3 (λ c κs. search needs) (λ c. search needs) add-if5 (λ c κs. search needs) returns-4 (λ c. search needs) (λ c κs. search needs) returns-5 (λ c κs. search needs) returns-6)
+    (tie.spec add-if1 (λ c κs. search needs) returns (λ c κs. search needs) (λ c κs. search needs) (λ c κs. search needs) fault-requires returns-2 (λ c κs. search needs) (λ c κs. search needs) fault-requires-2 returns-3 (λ c κs. search needs) add-if5 add-if5-2 (λ c κs. search needs) returns-4 (λ c. search needs) (λ c κs. search needs) returns-5 (λ c κs. search needs) returns-6)

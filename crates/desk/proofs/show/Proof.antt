@@ -12,15 +12,15 @@ unfolding perform
 returns c out =
     let a = c .before .before .before .before .before .before .args in
     let p = c .before .before .put-show .ensures .0 in
-    let none = append-nil (showText (a .list .now) (a .image .now)) in
+    let shown = append-nil (showText (a .list .now) (a .image .now)) in
     record {
       writes-is = refl;
-      text-is = rw none (p .text-is);
+      text-is = rw shown (p .text-is);
       verdict-size = omega (arith, p .next-is);
-      text-size = rw none (omega (arith, p .next-is));
+      text-size = rw shown (omega (arith, p .next-is));
       out-is = refl;
       out-size = refl;
-      text-bound = rw none (omega (arith, p .next-is, c .before .before .put-show .ensures .1));
+      text-bound = rw shown (omega (arith, p .next-is, c .before .before .put-show .ensures .1));
       out-bound = omega arith;
     }
 

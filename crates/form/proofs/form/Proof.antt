@@ -14,7 +14,7 @@ abbrev μ-loop : tie.MeasureT-loop
 μ-loop list image out₀ latest₀ sent₀ d₀ out latest sent d = length list - d .at
 
 returns : tie.Need-returns Inv-loop μ-loop
-returns c = formed-end _ _ _ (c .before .before .before .before .before .before .before .before .before .before .before .before .pre) _ (c .before .before .before .before .before .before .before .before .loop .inv) (c .before .before .before .before .before .before .if1 .left) _ (c .before .before .emit-changed .ensures)
+returns c = formed-end _ _ _ (c .before .before .before .before .before .before .before .before .before .before .before .before .pre) _ (c .before .before .before .before .before .before .before .before .loop .inv) (c .before .before .before .before .before .before .if1 .left) _ (c .before .before .emit-settings .ensures)
 
 loop-less : tie.Need-loop-less Inv-loop μ-loop
 loop-less c =

@@ -3,13 +3,13 @@ use native.Mathlib.Omega.{arith}
 use mathlib.Core.Path.{_≡_, refl, sym, _∙_}
 use lib.ListN.{length, drop, length-drop}
 use borrow.Author.Needs.{needs}
-use Rattle.format.specs.Format.{rowFrom, rowOf}
+use Rattle.format.specs.Format.{rowFrom, tableRow}
 use Rattle.format.proofs.Tables.{line-none, row-found, row-further, row-none}
 use Rattle.format.proofs.find_row.Statement.{statement}
 use Rattle.format.proofs.find_row.Tie as tie
 
 abbrev Inv-loop : tie.InvT-loop
-Inv-loop table a b fresh₀ i₀ fresh i = (i ≤ length table) × (rowFrom a b fresh (drop i table) ≡ rowOf table a b)
+Inv-loop table a b fresh₀ i₀ fresh i = (i ≤ length table) × (rowFrom a b fresh (drop i table) ≡ tableRow table a b)
 
 abbrev μ-loop : tie.MeasureT-loop
 μ-loop table a b fresh₀ i₀ fresh i = length table - i

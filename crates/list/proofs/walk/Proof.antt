@@ -8,10 +8,10 @@ use Rattle.list.proofs.walk.Statement.{statement}
 use Rattle.list.proofs.walk.Tie as tie
 
 abbrev Inv-loop : tie.InvT-loop
-Inv-loop rows list c₀ c = Walking list c
+Inv-loop rows masks list c₀ c = Walking list c
 
 abbrev μ-loop : tie.MeasureT-loop
-μ-loop rows list c₀ c = length list - c .at
+μ-loop rows masks list c₀ c = length list - c .at
 
 start-requires : tie.Need-start-requires Inv-loop μ-loop
 start-requires c κs = tt
@@ -20,7 +20,7 @@ loop-holds : tie.Need-loop-holds Inv-loop μ-loop
 loop-holds c = rw (c .start .ensures) (walking-start _)
 
 step-requires : tie.Need-step-requires Inv-loop μ-loop
-step-requires c κs = (c .before .before .loop .inv .counted, c .if1 .taken, c .before .before .before .before .before .pre)
+step-requires c κs = let a = c .before .before .before .before .before in (c .before .before .loop .inv .counted, c .if1 .taken, a .pre .0, a .pre .1)
 
 enum-known-s : tie.Need-enum-known-s Inv-loop μ-loop
 enum-known-s c = search needs

@@ -22,9 +22,10 @@ returns-2 c =
 returns-3 : tie.Need-returns-3
 unfolding parsePairs
 returns-3 c =
-    let n = length (values (c .before .before .before .before .before .before .before .args .pairs .now)) in
-    rw (le-ltb 4096 n (omega (arith, c .before .before .before .before .if1 .left, pair-count (c .before .before .before .before .before .before .before .args .pairs .now))), eq-eqb _ _ (c .before .before .before .if2 .left)) (c .walk .ensures (c .before .before .before .before .before .before .before .args .image .now))
+    let a = c .before .before .before .before .before .before .before .before .before .before in
+    let n = length (values (a .args .pairs .now)) in
+    rw (le-ltb 4096 n (omega (arith, c .before .before .before .before .before .before .before .if1 .left, pair-count (a .args .pairs .now))), eq-eqb _ _ (c .before .before .before .before .before .before .if2 .left)) (c .walk .ensures (a .args .image .now))
 
 pub check-spec : {M : Type 1} → statement M
 check-spec = tie.close
-    (tie.spec (λ c κs. search needs) returns (λ c κs. search needs) returns-2 (λ c κs. search needs) (λ c κs. search needs) returns-3)
+    (tie.spec (λ c κs. search needs) returns (λ c κs. search needs) returns-2 (λ c κs. search needs) (λ c κs. search needs) (λ c κs. search needs) returns-3)

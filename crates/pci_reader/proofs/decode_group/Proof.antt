@@ -39,7 +39,7 @@ returns-2 c =
     let ps = a .args .pairs .now in
     let at = a .args .at in
     let l = values ps in
-    let four : 4 ≤ length l - at = omega (arith, c .before .before .before .before .before .before .if1 .left, pair-count ps) in
+    let four : at + 4 ≤ length l = omega (arith, a .pre .0 .inside, c .before .before .before .before .before .before .if1 .left, pair-count ps) in
     let t = rw (c .before .before .before .before .group-placed .ensures) at (c .before .before .if2 .taken) in
     subst (Met ps at) (sym (c .refused-fault .ensures)) (λ e.
     let u = group-bit ps at _ _ (a .pre .0) (a .fits .id .fits) (a .pre .1) four _ (c .before .before .before .before .before .group-at .ensures) _ refl (c .before .before .before .undefined-bits .result) t e in
@@ -54,7 +54,7 @@ returns-3 c =
     let ps = a .args .pairs .now in
     let at = a .args .at in
     let l = values ps in
-    let four : 4 ≤ length l - at = omega (arith, c .before .before .before .before .before .before .before .before .if1 .left, pair-count ps) in
+    let four : at + 4 ≤ length l = omega (arith, a .pre .0 .inside, c .before .before .before .before .before .before .before .before .if1 .left, pair-count ps) in
     subst (Met ps at) (sym (c .refused-fault2 .ensures)) (λ e. sym (value-fault l at _ _ (a .pre .0) (a .fits .id .fits) (a .pre .1) four _ (c .before .before .before .before .before .before .before .group-at .ensures) (c .before .before .before .bad-values .ensures) (c .before .before .if3 .taken) _ (c .before .first-fault2 .ensures)))
 
 add-payload-placed : tie.Need-add-payload-placed
@@ -69,7 +69,7 @@ returns-4 c =
     let ps = a .args .pairs .now in
     let at = a .args .at in
     let l = values ps in
-    let four : 4 ≤ length l - at = omega (arith, c .before .before .before .before .before .before .before .before .before .before .before .if1 .left, pair-count ps) in
+    let four : at + 4 ≤ length l = omega (arith, a .pre .0 .inside, c .before .before .before .before .before .before .before .before .before .before .before .if1 .left, pair-count ps) in
     subst (Met ps at) (sym (c .refused2 .ensures)) (λ e.
     let t : _≡_ {A = Bool} true false = sym (c .before .before .payload-placed .ensures ∙ payload-there ps at _ _ (a .pre .0) (a .fits .id .fits) (a .pre .1) four _ (c .before .before .before .before .before .before .before .before .before .before .group-at .ensures) _ (c .before .before .before .before .payload .ensures) e) ∙ not-true _ (c .before .if5 .taken) in
     let z : _≡_ {A = ℕ} 0 1 = cc in absurd (omega arith))
@@ -83,7 +83,7 @@ returns-5 c =
     let ps = a .args .pairs .now in
     let at = a .args .at in
     let l = values ps in
-    let four : 4 ≤ length l - at = omega (arith, c .before .before .before .before .before .before .before .before .before .before .before .if1 .left, pair-count ps) in
+    let four : at + 4 ≤ length l = omega (arith, a .pre .0 .inside, c .before .before .before .before .before .before .before .before .before .before .before .if1 .left, pair-count ps) in
     let t = rw (c .before .before .before .before .before .before .before .before .before .group-placed .ensures) at (c .before .before .before .before .before .before .before .if2 .left) in
     let both = neither _ (c .before .before .before .before .before .before .before .before .undefined-bits .result) t in
     let clear = group-clear l at _ _ (a .pre .0) (a .fits .id .fits) (a .pre .1) four _ (c .before .before .before .before .before .before .before .before .before .before .group-at .ensures) (c .before .before .before .before .before .before .before .before .undefined-bits .ensures) (both .1) (c .before .before .before .before .before .before .bad-values .ensures) (c .before .before .before .before .before .if3 .left) in
@@ -97,7 +97,7 @@ returns-6 c =
     let ps = a .args .pairs .now in
     let at = a .args .at in
     let l = values ps in
-    let four : 4 ≤ length l - at = omega (arith, c .before .before .before .before .before .before .before .before .before .if1 .left, pair-count ps) in
+    let four : at + 4 ≤ length l = omega (arith, a .pre .0 .inside, c .before .before .before .before .before .before .before .before .before .if1 .left, pair-count ps) in
     let t = rw (c .before .before .before .before .before .before .before .group-placed .ensures) at (c .before .before .before .before .before .if2 .left) in
     let both = neither _ (c .before .before .before .before .before .before .undefined-bits .result) t in
     let clear = group-clear l at _ _ (a .pre .0) (a .fits .id .fits) (a .pre .1) four _ (c .before .before .before .before .before .before .before .before .group-at .ensures) (c .before .before .before .before .before .before .undefined-bits .ensures) (both .1) (c .before .before .before .before .bad-values .ensures) (c .before .before .before .if3 .left) in

@@ -12,29 +12,29 @@ use Rattle.pci_reader.proofs.decode_single.Statement.{statement}
 use Rattle.pci_reader.proofs.decode_single.Tie as tie
 
 fault-requires : tie.Need-refused-fault-requires
-fault-requires c κs = let a = c .before .before .before .before .before .before .before .before .before in omega (arith, fault-near _ (record { header = c .before .before .before .before .before .header-of .result; second = 0; third = 0; fourth = 0 }) _ (c .first-fault .ensures), a .pre .0 .inside, a .good, pair-count (a .args .pairs .now))
+fault-requires c κs = let a = c .before .before .before .before .before .before .before .before .before in omega (arith, fault-near _ (record { header = c .before .before .before .before .before .before .header-of .result; second = 0; third = 0; fourth = 0 }) _ (c .first-fault .ensures), a .pre .0 .inside, a .good, pair-count (a .args .pairs .now))
 
 returns : tie.Need-returns
 returns c =
     let a = c .before .before .before .before .before .before .before .before .before .before in
     let ps = a .args .pairs .now in
     let at = a .args .at in
-    let eh = c .before .before .before .before .before .before .header-of .ensures ∙ ap headerOf (c .before .before .before .before .before .before .before .value-at .ensures) in
+    let eh = c .before .before .before .before .before .before .before .header-of .ensures ∙ ap headerOf (c .before .before .before .before .before .before .before .before .value-at .ensures) in
     let t = rw (c .before .before .before .before .address-at .ensures, c .before .before .before .address .ensures) at (c .before .before .if1 .taken) in
     subst (Met ps at) (sym (c .refused-fault .ensures)) (λ e.
     let u = single-bit ps at _ _ (a .pre .0) (a .fits .id .fits) (a .pre .1) (c .before .before .before .before .before .undefined .result) t e in
-    sym (decoded-single-bad (values ps) at _ _ (a .pre .0) (a .fits .id .fits) (a .pre .1) _ _ _ eh (c .before .before .before .before .before .before .before .before .masks-of .ensures) (c .before .before .before .before .before .undefined .ensures) u (record { header = c .before .before .before .before .before .before .header-of .result; second = 0; third = 0; fourth = 0 }) _ (c .before .first-fault .ensures)))
+    sym (decoded-single-bad (values ps) at _ _ (a .pre .0) (a .fits .id .fits) (a .pre .1) _ _ _ eh (c .before .before .before .before .before .before .mask .ensures) (c .before .before .before .before .before .undefined .ensures) u (record { header = c .before .before .before .before .before .before .before .header-of .result; second = 0; third = 0; fourth = 0 }) _ (c .before .first-fault .ensures)))
 
 returns-2 : tie.Need-returns-2
 returns-2 c =
     let a = c .before .before .before .before .before .before .before .before .before in
     let ps = a .args .pairs .now in
     let at = a .args .at in
-    let eh = c .before .before .before .before .before .header-of .ensures ∙ ap headerOf (c .before .before .before .before .before .before .value-at .ensures) in
+    let eh = c .before .before .before .before .before .before .header-of .ensures ∙ ap headerOf (c .before .before .before .before .before .before .before .value-at .ensures) in
     let t = rw (c .before .before .before .address-at .ensures, c .before .before .address .ensures) at (c .before .if1 .left) in
     let both = neither _ (c .before .before .before .before .undefined .result) t in
     subst (Met ps at) (sym (c .single-command .ensures)) (
-      sym (decoded-single (values ps) at _ _ (a .pre .0) (a .fits .id .fits) (a .pre .1) _ _ _ eh (c .before .before .before .before .before .before .before .masks-of .ensures) (c .before .before .before .before .undefined .ensures) (both .1)),
+      sym (decoded-single (values ps) at _ _ (a .pre .0) (a .fits .id .fits) (a .pre .1) _ _ _ eh (c .before .before .before .before .before .mask .ensures) (c .before .before .before .before .undefined .ensures) (both .1)),
       single-passes ps at _ _ (a .pre .0) (a .fits .id .fits) (a .pre .1) (not-false _ (both .0)),
     )
 

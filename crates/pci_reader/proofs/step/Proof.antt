@@ -43,7 +43,7 @@ decode-group-requires c κs =
     let at = a .args .c .at in
     let ei : c .before .before .before .id-of .result ≡ idOf (getD (values ps) at 0) = c .before .before .before .id-of .ensures ∙ ap idOf (c .before .before .before .before .value-at .ensures) in
     let small = id-small ps at _ (a .pre .1) (c .before .before .before .before .before .shared-slice-known .given (2 * at + 1) .fits) ei in
-    (at-known (a .args .rows .now) (values ps) at _ (a .pre .2) (a .pre .1) ei small (c .before .if1 .left), at-kind (a .args .rows .now) (values ps) at _ (a .pre .2) (a .pre .1) ei small (c .before .if1 .left) true (c .if2 .taken))
+    (at-known (a .args .rows .now) (values ps) at _ (a .pre .2) (a .pre .1) ei small (c .before .if1 .left), at-kind (a .args .rows .now) (values ps) at _ (a .pre .2) (a .pre .1) ei small (c .before .if1 .left) true (c .if2 .taken), a .pre .3)
 
 take-requires-2 : tie.Need-take-requires-2
 take-requires-2 c κs = (c .before .before .before .before .before .before .before .pre .0, met-inside (c .before .before .before .before .before .before .before .args .pairs .now) (c .before .before .before .before .before .before .before .args .c) (c .decode-group .result) (c .decode-group .ensures) (omega (arith, c .before .before .before .before .before .before .before .good, pair-count (c .before .before .before .before .before .before .before .args .pairs .now))) (c .before .before .before .before .before .before .before .pre .1))
@@ -58,7 +58,7 @@ decode-single-requires c κs =
     let at = a .args .c .at in
     let ei : c .before .before .before .id-of .result ≡ idOf (getD (values ps) at 0) = c .before .before .before .id-of .ensures ∙ ap idOf (c .before .before .before .before .value-at .ensures) in
     let small = id-small ps at _ (a .pre .1) (c .before .before .before .before .before .shared-slice-known .given (2 * at + 1) .fits) ei in
-    (at-known (a .args .rows .now) (values ps) at _ (a .pre .2) (a .pre .1) ei small (c .before .if1 .left), at-kind (a .args .rows .now) (values ps) at _ (a .pre .2) (a .pre .1) ei small (c .before .if1 .left) false (c .if2 .left))
+    (at-known (a .args .rows .now) (values ps) at _ (a .pre .2) (a .pre .1) ei small (c .before .if1 .left), at-kind (a .args .rows .now) (values ps) at _ (a .pre .2) (a .pre .1) ei small (c .before .if1 .left) false (c .if2 .left), a .pre .3)
 
 take-requires-3 : tie.Need-take-requires-3
 take-requires-3 c κs = (c .before .before .before .before .before .before .before .pre .0, met-inside (c .before .before .before .before .before .before .before .args .pairs .now) (c .before .before .before .before .before .before .before .args .c) (c .decode-single .result) (c .decode-single .ensures) (omega (arith, c .before .before .before .before .before .before .before .good, pair-count (c .before .before .before .before .before .before .before .args .pairs .now))) (c .before .before .before .before .before .before .before .pre .1))

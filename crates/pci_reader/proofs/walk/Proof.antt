@@ -11,10 +11,10 @@ use Rattle.pci_reader.proofs.walk.Statement.{statement}
 use Rattle.pci_reader.proofs.walk.Tie as tie
 
 abbrev Inv-loop : tie.InvT-loop
-Inv-loop rows pairs n c₀ c = Passing pairs c
+Inv-loop rows masks pairs n c₀ c = Passing pairs c
 
 abbrev μ-loop : tie.MeasureT-loop
-μ-loop rows pairs n c₀ c = length (values pairs) - c .at
+μ-loop rows masks pairs n c₀ c = length (values pairs) - c .at
 
 start-requires : tie.Need-start-requires Inv-loop μ-loop
 start-requires c κs = tt
@@ -23,7 +23,7 @@ loop-holds : tie.Need-loop-holds Inv-loop μ-loop
 loop-holds c = rw (c .start .ensures) (passing-start _)
 
 step-requires : tie.Need-step-requires Inv-loop μ-loop
-step-requires c κs = (c .before .before .loop .inv .walking .counted, omega (arith, c .if1 .taken, pair-count (c .before .before .before .before .before .args .pairs .now)), c .before .before .before .before .before .pre)
+step-requires c κs = (c .before .before .loop .inv .walking .counted, omega (arith, c .if1 .taken, pair-count (c .before .before .before .before .before .args .pairs .now)), c .before .before .before .before .before .pre .0, c .before .before .before .before .before .pre .1)
 
 enum-known-s : tie.Need-enum-known-s Inv-loop μ-loop
 enum-known-s c = search needs

@@ -14,13 +14,13 @@ command-size-requires c κs = own-at _ _ (c .before .before .before .pre .0 .com
 write-record-requires : tie.Need-write-record-requires
 write-record-requires c κs =
     let a = c .before .before .before .before .before .before .before .before .before in
-    (a .pre .0 .command, a .pre .1, c .before .before .before .before .before .command-size .ensures, omega (arith, a .pre .0 .room, ap length (is-work _ _ (c .before .before .before .before .before .before .before .before .before .pre .0 .command) (c .before .before .before .before .before .before .before .before .before .pre .1) .record-is)))
+    (a .pre .0 .command, a .pre .1, c .before .before .before .before .before .command-size .ensures, omega (arith, a .pre .0 .fits, ap length (is-work _ _ (c .before .before .before .before .before .before .before .before .before .pre .0 .command) (c .before .before .before .before .before .before .before .before .before .pre .1) .record-is)))
 
 add-t12 : tie.Need-add-t12
 add-t12 c = omega (arith, c .before .before .before .before .before .before .before .before .command-size .ensures, c .before .before .before .before .before .before .before .before .before .before .before .before .pre .0 .command .inside, c .before .before .before .before .before .before .before .before .before .before .before .before .pre .0 .command .few)
 
 add-t13 : tie.Need-add-t13
-add-t13 c = omega (arith, c .before .before .before .before .before .before .before .before .before .before .before .before .pre .0 .room, ap length (is-work _ _ (c .before .before .before .before .before .before .before .before .before .before .before .before .pre .0 .command) (c .before .before .before .before .before .before .before .before .before .before .before .before .pre .1) .record-is))
+add-t13 c = omega (arith, c .before .before .before .before .before .before .before .before .before .before .before .before .pre .0 .fits, ap length (is-work _ _ (c .before .before .before .before .before .before .before .before .before .before .before .before .pre .0 .command) (c .before .before .before .before .before .before .before .before .before .before .before .before .pre .1) .record-is))
 
 returns : tie.Need-returns
 returns c =

@@ -20,8 +20,8 @@ returns-3 : tie.Need-returns-3
 returns-3 c =
     let a = c .before .before .before .before .before .before .before .before .before .before .before .before .before .before .args in
     let loaded = c .before .before .before .before .before .before .before .before .load .ensures in
-    let room : length (a .input .now) / 4 ≤ length (a .words .now) = omega (arith, ap length loaded, length-sets (a .words .now) 0 (wordsOf (a .input .now))) in
-    let front = ap (take (length (a .input .now) / 4)) loaded ∙ words-front (a .input .now) (a .words .now) room in
+    let fits : length (a .input .now) / 4 ≤ length (a .words .now) = omega (arith, ap length loaded, length-sets (a .words .now) 0 (wordsOf (a .input .now))) in
+    let front = ap (take (length (a .input .now) / 4)) loaded ∙ words-front (a .input .now) (a .words .now) fits in
     rw loaded (and-short _ _ _ _ _ (printed-whole _ _ _ _ _ (c .before .before .before .before .before .before .before .before .before .before .before .if1 .left) (c .before .before .before .before .before .before .before .before .before .before .if2 .left) (rw front at (c .before .before .put-list .ensures))))
 
 pub listing-spec : {M : Type 1} → statement M

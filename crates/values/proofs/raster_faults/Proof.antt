@@ -1,8 +1,10 @@
+use Rattle.values.specs.Broken.{rasterBroken}
 use borrow.Author.Needs.{needs}
 use Rattle.values.proofs.raster_faults.Statement.{statement}
 use Rattle.values.proofs.raster_faults.Tie as tie
 
 returns : tie.Need-returns
+unfolding rasterBroken
 returns c = rw (c .clash .ensures)
 
 pub raster-faults-spec : {M : Type 1} → statement M

@@ -38,7 +38,7 @@ decode-group-requires c κs =
     let l = a .args .list .now in
     let ei : c .before .before .before .id-of .result ≡ idOf (getD l at 0) = c .before .before .before .id-of .ensures ∙ ap idOf (c .before .before .before .before .fetch .ensures) in
     let small : c .before .before .before .id-of .result < 256 = omega (arith, ei, c .before .before .before .before .before .shared-slice-known .given at) in
-    (at-known (a .args .rows .now) l at _ (a .pre .2) (a .pre .1) ei small (c .before .if1 .left), at-kind (a .args .rows .now) l at _ (a .pre .2) (a .pre .1) ei small (c .before .if1 .left) true (c .if2 .taken))
+    (at-known (a .args .rows .now) l at _ (a .pre .2) (a .pre .1) ei small (c .before .if1 .left), at-kind (a .args .rows .now) l at _ (a .pre .2) (a .pre .1) ei small (c .before .if1 .left) true (c .if2 .taken), a .pre .3)
 
 take-requires-2 : tie.Need-take-requires-2
 take-requires-2 c κs = (c .before .before .before .before .before .before .before .pre .0, inside-after _ (c .before .before .before .before .before .before .before .args .self) _ (c .decode-group .ensures) (omega (arith, c .before .before .before .before .before .before .before .good)) (c .before .before .before .before .before .before .before .pre .1))
@@ -53,7 +53,7 @@ decode-single-requires c κs =
     let l = a .args .list .now in
     let ei : c .before .before .before .id-of .result ≡ idOf (getD l at 0) = c .before .before .before .id-of .ensures ∙ ap idOf (c .before .before .before .before .fetch .ensures) in
     let small : c .before .before .before .id-of .result < 256 = omega (arith, ei, c .before .before .before .before .before .shared-slice-known .given at) in
-    (at-known (a .args .rows .now) l at _ (a .pre .2) (a .pre .1) ei small (c .before .if1 .left), at-kind (a .args .rows .now) l at _ (a .pre .2) (a .pre .1) ei small (c .before .if1 .left) false (c .if2 .left))
+    (at-known (a .args .rows .now) l at _ (a .pre .2) (a .pre .1) ei small (c .before .if1 .left), at-kind (a .args .rows .now) l at _ (a .pre .2) (a .pre .1) ei small (c .before .if1 .left) false (c .if2 .left), a .pre .3)
 
 take-requires-3 : tie.Need-take-requires-3
 take-requires-3 c κs = (c .before .before .before .before .before .before .before .pre .0, inside-after _ (c .before .before .before .before .before .before .before .args .self) _ (c .decode-single .ensures) (omega (arith, c .before .before .before .before .before .before .before .good)) (c .before .before .before .before .before .before .before .pre .1))
