@@ -178,7 +178,7 @@ fn emit_changed(
     emit_groups(changed, list, image, latest, sent, out, m)
 }
 
-// The same, where something changed. Asked here, most work commands are put out without a call.
+// The same, called only where something changed: many work commands follow each other with no setting in between.
 pub fn emit_settings(
     changed: u64,
     list: &[u32],
