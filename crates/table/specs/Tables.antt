@@ -84,7 +84,7 @@ maskOf r word = getD (r .mask ∷ r .more) word 0xFFFFFFFF
 abbrev pub masksOf : Row → List ℕ
 masksOf r = maskOf r 0 ∷ maskOf r 1 ∷ maskOf r 2 ∷ maskOf r 3 ∷ []
 
--- the same by the number of the row
+-- the mask of a word by the number of the row
 unfoldable pub maskAt : ℕ → ℕ → ℕ
 unfolding rowAt
 maskAt row word = maskOf (rowAt (getD (getD rowIds row []) 0 0)) word
@@ -92,7 +92,7 @@ maskAt row word = maskOf (rowAt (getD (getD rowIds row []) 0 0)) word
 abbrev pub rowMasks : ℕ → List ℕ
 rowMasks row = maskAt row 0 ∷ maskAt row 1 ∷ maskAt row 2 ∷ maskAt row 3 ∷ []
 
--- all of them, four to a row
+-- the masks of all rows, four to a row
 unfoldable pub maskTable : List ℕ
 unfolding maskAt
 maskTable = tabulate (rowCount * 4) 0 (λ i. maskAt (i / 4) (i % 4))

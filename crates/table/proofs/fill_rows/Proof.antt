@@ -1,4 +1,3 @@
-use mathlib.Core.Path.{refl}
 use Rattle.table.specs.Tables.{rowTable}
 use borrow.Author.Needs.{needs}
 use Rattle.table.proofs.fill_rows.Statement.{statement}
