@@ -1,6 +1,6 @@
 /*
  * From C: reads a list, asks how long its normal form is and writes it in just that room, writes its PCI writes and the list
- * of these, and reads two bad lists.
+ * of these, reads two bad lists, and three lists in one call.
  */
 #include <inttypes.h>
 #include <stdio.h>
@@ -53,12 +53,37 @@ static void print_form(const uint32_t *list, size_t list_words, const uint32_t *
     free(out);
 }
 
+static void print_records(const uint32_t *records, uint32_t words)
+{
+    for (const uint32_t *r = records; r != records + words; r += 4)
+        printf("%" PRIu32 " %02" PRIx32 " %" PRIu32 " %06" PRIx32 "\n", r[1], r[0], r[2], r[3]);
+}
+
+/* Reads the lists of a table of starts and lengths in turn. */
+static void print_scenes(const char *name, const uint32_t *words, size_t words_words, const uint32_t *table,
+                         size_t table_words)
+{
+    uint32_t image[256] = {0};
+    uint32_t records[64] = {0};
+    uint32_t answer[XP10_ANSWER_WORDS] = {0};
+
+    xp10_read_scenes(words, words_words, table, table_words, image, WORDS(image), records, WORDS(records), answer,
+                     WORDS(answer));
+    print_answer(name, answer);
+    printf("lists applied %" PRIu32 ", image word 02 is %06" PRIx32 "\n", answer[XP10_LISTS], image[0x02]);
+    print_records(records, answer[XP10_WORDS]);
+}
+
 int main(void)
 {
     static const uint32_t list[] = {0x02000010, 0x00000300, 0x48000000, 0, 0, 0, 0x21000100, 0x10100007, 0, 0, 0};
     static const uint32_t repeats[] = {0x02000010, 0x02000020, 0x00000001, 0x02000020};
     static const uint32_t undefined[] = {0x01000002};
     static const uint32_t clash[] = {0x84000000, 0x10000000, 0xC0000000, 0};
+    static const uint32_t scenes[] = {0x02000010, 0x00000001, 0x21000000, 0x00000002, 0x02000020, 0x03000000};
+    static const uint32_t good[] = {0, 3, 3, 2};
+    static const uint32_t bad[] = {0, 3, 3, 1, 4, 2};
+    static const uint32_t outside[] = {0, 3, 4, 3};
     uint32_t image[256] = {0};
     static const uint32_t start[256] = {0};
     uint32_t records[4 * WORDS(list)] = {0};
@@ -68,8 +93,7 @@ int main(void)
 
     xp10_read(list, WORDS(list), image, WORDS(image), records, WORDS(records), answer, WORDS(answer));
     print_answer("read", answer);
-    for (const uint32_t *r = records; r != records + answer[XP10_WORDS]; r += 4)
-        printf("%" PRIu32 " %02" PRIx32 " %" PRIu32 " %06" PRIx32 "\n", r[1], r[0], r[2], r[3]);
+    print_records(records, answer[XP10_WORDS]);
     printf("image word 02 is %06" PRIx32 "\n", image[0x02]);
 
     print_form(list, WORDS(list), start, WORDS(start));
@@ -93,5 +117,9 @@ int main(void)
 
     print_refusal("undefined bit", undefined, WORDS(undefined), XP10_UNDEFINED_BIT);
     print_refusal("page maximum", clash, WORDS(clash), XP10_PAGE_MAXIMUM);
+
+    print_scenes("two lists", scenes, WORDS(scenes), good, WORDS(good));
+    print_scenes("the third is refused", scenes, WORDS(scenes), bad, WORDS(bad));
+    print_scenes("the second is outside", scenes, WORDS(scenes), outside, WORDS(outside));
     return 0;
 }

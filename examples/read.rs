@@ -1,10 +1,23 @@
 //! From Rust: reads a list, asks how long its normal form is and writes it in just that room, writes its PCI writes and the
-//! list of these, and reads two bad lists.
+//! list of these, reads two bad lists, and three lists in one call.
 
 extern "C" {
     fn xp10_read(
         list: *const u32,
         list_words: usize,
+        image: *mut u32,
+        image_words: usize,
+        records: *mut u32,
+        records_words: usize,
+        answer: *mut u32,
+        answer_words: usize,
+    ) -> u32;
+
+    fn xp10_read_scenes(
+        words: *const u32,
+        words_words: usize,
+        table: *const u32,
+        table_words: usize,
         image: *mut u32,
         image_words: usize,
         records: *mut u32,
@@ -77,6 +90,28 @@ fn read(list: &[u32], image: &mut [u32], records: &mut [u32]) -> Answer {
     answer
 }
 
+/// The answer, and how many lists are applied.
+fn read_scenes(words: &[u32], table: &[u32], image: &mut [u32], records: &mut [u32]) -> (Answer, u32) {
+    let mut answer = [0; 7];
+    // SAFETY: as for `read`.
+    unsafe {
+        xp10_read_scenes(
+            words.as_ptr(),
+            words.len(),
+            table.as_ptr(),
+            table.len(),
+            image.as_mut_ptr(),
+            image.len(),
+            records.as_mut_ptr(),
+            records.len(),
+            answer.as_mut_ptr(),
+            answer.len(),
+        )
+    };
+    let [numbers @ .., lists] = answer;
+    (numbers, lists)
+}
+
 fn measure(list: &[u32], image: &[u32]) -> Answer {
     let mut answer = [0; 6];
     // SAFETY: as for `read`.
@@ -112,6 +147,21 @@ fn print_answer(name: &str, answer: Answer) {
     );
 }
 
+fn print_records(records: &[u32]) {
+    for record in records.chunks(4) {
+        println!("{} {:02x} {} {:06x}", record[1], record[0], record[2], record[3]);
+    }
+}
+
+/// Reads the lists of a table of starts and lengths in turn.
+fn print_scenes(name: &str, words: &[u32], table: &[u32]) {
+    let (mut image, mut records) = ([0; 256], [0; 64]);
+    let (answer, lists) = read_scenes(words, table, &mut image, &mut records);
+    print_answer(name, answer);
+    println!("lists applied {lists}, image word 02 is {:06x}", image[0x02]);
+    print_records(&records[..answer[4] as usize]);
+}
+
 /// Asks for the room that the normal form takes, and lends so much, and then one word less.
 fn print_form(list: &[u32], start: &[u32]) {
     let told = measure(list, start);
@@ -136,9 +186,7 @@ fn main() {
 
     let answer = read(&list, &mut image, &mut records);
     print_answer("read", answer);
-    for record in records[..answer[4] as usize].chunks(4) {
-        println!("{} {:02x} {} {:06x}", record[1], record[0], record[2], record[3]);
-    }
+    print_records(&records[..answer[4] as usize]);
     println!("image word 02 is {:06x}", image[0x02]);
 
     print_form(&list, &start);
@@ -160,4 +208,9 @@ fn main() {
 
     print_answer("undefined bit", read(&[0x01000002], &mut image, &mut records));
     print_answer("page maximum", read(&[0x84000000, 0x10000000, 0xC0000000, 0], &mut image, &mut records));
+
+    let scenes = [0x02000010, 0x00000001, 0x21000000, 0x00000002, 0x02000020, 0x03000000];
+    print_scenes("two lists", &scenes, &[0, 3, 3, 2]);
+    print_scenes("the third is refused", &scenes, &[0, 3, 3, 1, 4, 2]);
+    print_scenes("the second is outside", &scenes, &[0, 3, 4, 3]);
 }

@@ -55,6 +55,47 @@ macro_rules! measure {
     };
 }
 
+/// Several lists in one call: of this build alone, since an earlier one may not have it.
+pub mod scenes {
+    pub fn read_scenes(
+        words: &[u32],
+        table: &[u32],
+        image: &mut [u32],
+        records: &mut [u32],
+        answer: &mut [u32],
+    ) -> u32 {
+        extern "C" {
+            fn xp10_read_scenes(
+                words: *const u32,
+                words_words: usize,
+                table: *const u32,
+                table_words: usize,
+                image: *mut u32,
+                image_words: usize,
+                records: *mut u32,
+                records_words: usize,
+                answer: *mut u32,
+                answer_words: usize,
+            ) -> u32;
+        }
+        // SAFETY: as above.
+        unsafe {
+            xp10_read_scenes(
+                words.as_ptr(),
+                words.len(),
+                table.as_ptr(),
+                table.len(),
+                image.as_mut_ptr(),
+                image.len(),
+                records.as_mut_ptr(),
+                records.len(),
+                answer.as_mut_ptr(),
+                answer.len(),
+            )
+        }
+    }
+}
+
 /// A build whose symbols start so.
 macro_rules! library {
     ($build:ident, $prefix:literal) => {

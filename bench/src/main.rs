@@ -5,6 +5,7 @@ mod library;
 mod lists;
 mod pci;
 mod rust;
+mod scenes;
 
 #[cfg(before)]
 use library::before;
@@ -236,10 +237,13 @@ fn main() {
         ("short lists", lists::short_lists()),
     ];
     let compared = compare_commands() + groups.iter().map(|(_, lists)| compare_all(lists)).sum::<usize>();
-    println!("outputs equal on {compared} lists; best of {rounds} rounds, buffers not cleared between calls");
+    let short = &groups[4].1;
+    let sessions = scenes::compare(short);
+    println!("outputs equal on {compared} lists and {sessions} sessions; best of {rounds} rounds, buffers not cleared between calls");
     print!("{:<32} {:>9} {:>9}  {:<12} {:>6}", "", "proved", "Rust", "", "ratio");
     println!("{}", if cfg!(before) { "    before  ratio" } else { "" });
     for (name, lists) in &groups {
         time_lists(rounds, name, lists);
     }
+    scenes::time_dozens(rounds, short);
 }

@@ -1,6 +1,6 @@
 /*
- * XP10 command lists: the reader, the normaliser and the room that it needs, and PCI writes from a list and back, proved in
- * Rattle (crates/host).
+ * XP10 command lists: the reader, of one list and of several in one call, the normaliser and the room that it needs, and PCI
+ * writes from a list and back, proved in Rattle (crates/host).
  * Link with target/staticlib/libhost.a, which `rt staticlib host` makes.
  *
  * Each slice is a pointer and a number of 32-bit words. No pointer is null, also with no words, and a slice that is
@@ -37,12 +37,13 @@ enum {
     XP10_PAGE_MINIMUM = 16,    /* window clip: the page minimum is over the maximum: the command's first word */
     XP10_RASTER_BITS = 17,     /* raster mode: bit 14 without bit 22: the command's first word */
     XP10_LOAD_FLOATS = 18,     /* bit 23 of a load whose code is not 5: the command's first word */
-    XP10_PLANE_RANGE = 19      /* a load of user clip planes behind the eighth: the command's first word */
+    XP10_PLANE_RANGE = 19,     /* a load of user clip planes behind the eighth: the command's first word */
+    XP10_PAIR_OUTSIDE = 20     /* of a table of lists: a pair after the 4,096th, or not inside the word buffer: 0 */
 };
 
 /*
  * The numbers of an answer. Those that `answer` has no room for are left out: five words leave out the bit. After a refusal
- * XP10_COMMANDS, XP10_RECORDS and XP10_WORDS are 0.
+ * XP10_COMMANDS, XP10_RECORDS and XP10_WORDS are 0, but for xp10_read_scenes.
  */
 enum {
     XP10_VERDICT,
@@ -51,6 +52,7 @@ enum {
     XP10_RECORDS,
     XP10_WORDS, /* the words written to `records`, `out`, `pairs` or `list`; of xp10_measure, those that the form has */
     XP10_BIT,   /* with XP10_UNDEFINED_BIT the number of the lowest undefined bit set in the word, else 32 */
+    XP10_LISTS, /* of xp10_read_scenes alone, the lists applied; the other functions leave this word as it was */
     XP10_ANSWER_WORDS
 };
 
@@ -62,6 +64,21 @@ uint32_t xp10_read(const uint32_t *list, size_t list_words,
                    uint32_t *image, size_t image_words,
                    uint32_t *records, size_t records_words,
                    uint32_t *answer, size_t answer_words);
+
+/*
+ * Reads several lists of one word buffer in turn, over one image: `table` has a start and a length, in words, for each; an
+ * odd last word is ignored. Each list is read as by xp10_read, from the image that the lists before left and with the record
+ * room that they left; the positions of its records count inside it. The first refused list ends the call: the refusal, its
+ * position, in that list, and its bit are told and change nothing more, and the lists before it stay applied.
+ * XP10_COMMANDS, XP10_RECORDS and XP10_WORDS are sums over the lists applied, also after a refusal, and XP10_LISTS is how many
+ * these are. XP10_PAIR_OUTSIDE is asked when a pair's turn comes, before its list is looked at. On acceptance XP10_POSITION is
+ * the last list's length; with no pair it is 0, and the image may have any size.
+ */
+uint32_t xp10_read_scenes(const uint32_t *words, size_t words_words,
+                          const uint32_t *table, size_t table_words,
+                          uint32_t *image, size_t image_words,
+                          uint32_t *records, size_t records_words,
+                          uint32_t *answer, size_t answer_words);
 
 /*
  * Writes the list's normal form from a starting image: returns the verdict. A form has at most as many words as its

@@ -1,15 +1,20 @@
-//! The measure held against the normaliser.
+//! The measure held against the normaliser, and a session against the reader.
 
-use crate::lists::Case;
+use crate::lists::{Case, CaseKind, Image};
 use crate::outcome::{prefilled, Function, Outcome};
-use crate::rules::{Refusal, ANSWER_WORDS};
+use crate::rules::{put, Refusal, ANSWER_WORDS, NO_BIT};
+
+/// The first thing in a case that isn't as another function gives it.
+pub fn disagreement(case: &Case, run: impl FnMut(Function, &Case) -> Outcome) -> Option<String> {
+    match case.kind {
+        CaseKind::List => of_measure(case, run),
+        CaseKind::Session => of_session(case, run),
+    }
+}
 
 /// Where the told words fit, the normaliser gives the same answer and writes as many; where they
-/// don't, it gives 11. The first thing in a case that isn't so.
-pub fn disagreement(
-    case: &Case,
-    mut run: impl FnMut(Function, &Case) -> Outcome,
-) -> Option<String> {
+/// don't, it gives 11.
+fn of_measure(case: &Case, mut run: impl FnMut(Function, &Case) -> Outcome) -> Option<String> {
     let list_words = case.list.len();
     let told = run(Function::Measure, case).answer;
     let [verdict, .., words, _] = told;
@@ -49,10 +54,81 @@ fn fault(
     (!kept).then(|| format!("changed a word behind the first {written}"))
 }
 
+/// A session gives what the reader does, called for one list after the other.
+fn of_session(case: &Case, mut run: impl FnMut(Function, &Case) -> Outcome) -> Option<String> {
+    let given = run(Function::Scenes, case);
+    let expected = match called_singly(case, run) {
+        Ok(expected) => expected,
+        Err(fault) => return Some(fault),
+    };
+    if given.numbers() != expected.numbers() {
+        let (given, expected) = (given.numbers(), expected.numbers());
+        return Some(format!("session {given:?}, single calls {expected:?}"));
+    }
+    if given.image != expected.image {
+        return Some("the session's image isn't that of single calls".into());
+    }
+    (given.buffer != expected.buffer).then(|| "the session's records aren't those of calls".into())
+}
+
+/// What single calls give together; or what one of them wrote that it shouldn't.
+fn called_singly(
+    case: &Case,
+    mut run: impl FnMut(Function, &Case) -> Outcome,
+) -> Result<Outcome, String> {
+    const MOST_PAIRS: usize = 4096;
+    let mut all = Outcome {
+        answer: [0, 0, 0, 0, 0, NO_BIT],
+        more: vec![0],
+        image: case.image.words(),
+        buffer: prefilled(case.records_len),
+    };
+    for (number, pair) in case.arguments.chunks_exact(2).enumerate() {
+        let [start, length] = [pair[0] as usize, pair[1] as usize];
+        if number >= MOST_PAIRS || start + length > case.list.len() {
+            [all.answer[0], all.answer[1], all.answer[5]] = [20, 0, NO_BIT];
+            break;
+        }
+        let single = Case {
+            kind: CaseKind::List,
+            list: case.list[start..start + length].to_vec(),
+            arguments: Vec::new(),
+            image: Image::Words(all.image.clone()),
+            records_len: case.records_len - all.answer[4] as usize,
+            ..*case
+        };
+        add_call(&mut all, run(Function::Reader, &single))
+            .map_err(|fault| format!("call {number} {fault}"))?;
+        if all.answer[0] != 0 {
+            break;
+        }
+        all.more[0] += 1;
+    }
+    Ok(all)
+}
+
+/// Adds what a single call gave, with the buffer that was left for it.
+fn add_call(all: &mut Outcome, call: Outcome) -> Result<(), String> {
+    let (left, words) = (call.buffer.len(), call.answer[4] as usize);
+    if words > left {
+        return Err(format!("tells {words} words in a buffer of {left}"));
+    }
+    if call.buffer[words..] != prefilled(left)[words..] {
+        return Err(format!("changed a word behind the first {words}"));
+    }
+    put(&mut all.buffer[all.answer[4] as usize..], &call.buffer[..words]);
+    all.image = call.image;
+    let [verdict, position, .., bit] = call.answer;
+    [all.answer[0], all.answer[1], all.answer[5]] = [verdict, position, bit];
+    for k in 2..=4 {
+        all.answer[k] += call.answer[k];
+    }
+    Ok(())
+}
+
 #[cfg(test)]
 mod tests {
     use super::*;
-    use crate::lists::Image;
     use crate::outcome;
     use crate::rules;
 
@@ -60,6 +136,8 @@ mod tests {
     fn found(room: usize, change: impl Fn(Function, &mut Outcome)) -> Option<String> {
         let case = Case {
             class: "N1",
+            kind: CaseKind::List,
+            arguments: Vec::new(),
             list: vec![0x02000010, 0x02000020, 0x00000001, 0x02000020],
             image: Image::ZERO,
             records_len: 0,
@@ -90,6 +168,46 @@ mod tests {
             }
         }
         assert!(found(4, |_, outcome| outcome.answer[4] += 3).is_some());
+    }
+
+    /// Disagreements on a session of three lists, with the outcomes changed.
+    fn found_in_session(change: impl Fn(Function, &mut Outcome)) -> Option<String> {
+        let case = Case {
+            class: "session",
+            kind: CaseKind::Session,
+            list: vec![0x02000010, 0x00000001, 0x02000020],
+            arguments: vec![0, 2, 1, 1, 1, 2],
+            image: Image::ZERO,
+            records_len: 14,
+            out_len: 0,
+            pci_len: 0,
+        };
+        disagreement(&case, |function, case| {
+            let mut outcome = outcome::of(function, rules::paper(), case);
+            change(function, &mut outcome);
+            outcome
+        })
+    }
+
+    #[test]
+    fn other_sessions_are_found() {
+        assert_eq!(found_in_session(|_, _| {}), None);
+        for function in [Function::Reader, Function::Scenes] {
+            for k in 0..ANSWER_WORDS {
+                let change =
+                    |of, outcome: &mut Outcome| outcome.answer[k] ^= (of == function) as u32;
+                assert!(found_in_session(change).is_some(), "{k} of {}", function.name());
+            }
+            let image = |of, outcome: &mut Outcome| outcome.image[9] ^= (of == function) as u32;
+            assert!(found_in_session(image).is_some());
+            for k in 0..2 {
+                let buffer =
+                    |of, outcome: &mut Outcome| outcome.buffer[k] ^= (of == function) as u32;
+                assert!(found_in_session(buffer).is_some());
+            }
+        }
+        let lists = |_, outcome: &mut Outcome| outcome.more.iter_mut().for_each(|n| *n += 1);
+        assert!(found_in_session(lists).is_some());
     }
 
     #[test]

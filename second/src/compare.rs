@@ -1,19 +1,22 @@
 //! Counts of verdicts over many cases, and the comparison with the proved library.
 
-use crate::lists::{self, Case, Image};
+use crate::lists::{self, Case, CaseKind, Image};
 use crate::outcome::{self, Function};
 use crate::rules;
 
-/// 8 is no longer given, and 12 is the listing program's alone.
-const VERDICTS: usize = 20;
+/// 8 is no longer given, and 12 is the listing program's alone. Those from 21 on are for later requests.
+const VERDICTS: usize = 33;
 
 /// How often each function gave each verdict.
-#[derive(Default)]
 pub struct Tally([[u64; VERDICTS]; Function::ALL.len()]);
 
 impl Tally {
+    pub fn new() -> Tally {
+        Tally([[0; VERDICTS]; Function::ALL.len()])
+    }
+
     pub fn add(&mut self, case: &Case) {
-        for function in Function::ALL {
+        for function in case.kind.functions() {
             self.count(function, outcome::of(function, rules::paper(), case).answer[0]);
         }
     }
@@ -38,7 +41,7 @@ impl Tally {
 /// Counts the verdicts of the rules alone.
 pub fn count(cases: usize, seed: u64) {
     let fixed = lists::fixed_cases();
-    let mut tally = Tally::default();
+    let mut tally = Tally::new();
     let mut words = 0;
     for index in 0..cases {
         let case = lists::case(&fixed, index, seed);
@@ -46,7 +49,7 @@ pub fn count(cases: usize, seed: u64) {
         words += case.list.len();
     }
     print!("{}", tally.lines(10));
-    println!("{cases} lists, {} of them fixed, {words} words", fixed.len().min(cases));
+    println!("{cases} cases, {} of them fixed, {words} words", fixed.len().min(cases));
 }
 
 /// Prints a case and what the rules give for it.
@@ -54,9 +57,9 @@ pub fn show(index: usize, seed: u64) {
     let fixed = lists::fixed_cases();
     let case = lists::case(&fixed, index, seed);
     print_case(&case, usize::MAX);
-    for function in Function::ALL {
+    for function in case.kind.functions() {
         let outcome = outcome::of(function, rules::paper(), &case);
-        println!("{}: {:?}", function.name(), outcome.answer);
+        println!("{}: {:?}", function.name(), outcome.numbers());
         if function.writes() {
             let written = outcome.answer[4] as usize;
             println!("  written {}", hex(&outcome.buffer[..written], usize::MAX));
@@ -69,16 +72,24 @@ pub fn show(index: usize, seed: u64) {
 
 fn print_case(case: &Case, longest: usize) {
     println!("  class   {}", case.class);
-    println!("  list    {}", hex(&case.list, longest));
+    match case.kind {
+        CaseKind::List => println!("  list    {}", hex(&case.list, longest)),
+        CaseKind::Session => {
+            println!("  words   {}", hex(&case.list, longest));
+            println!("  table   {}", hex(&case.arguments, longest));
+        }
+    }
     match &case.image {
         Image::Seeded { seed: 0, len } => println!("  image   {len} zero words"),
         Image::Seeded { seed, len } => println!("  image   {len} words of seed {seed:08X}"),
         Image::Words(words) => println!("  image   {}", hex(words, longest)),
     }
     let Case { records_len, out_len, pci_len, .. } = case;
-    println!(
-        "  room    {records_len} words for records, {out_len} for the form, {pci_len} for PCI"
-    );
+    let others = match case.kind {
+        CaseKind::List => format!(", {out_len} for the form, {pci_len} for PCI"),
+        CaseKind::Session => String::new(),
+    };
+    println!("  room    {records_len} words for records{others}");
 }
 
 fn hex(words: &[u32], longest: usize) -> String {
@@ -101,7 +112,7 @@ mod with_proved {
     use crate::agreement;
     use crate::outcome::{prefilled, Outcome};
     use crate::proved::{self, Call};
-    use crate::rules::ANSWER_WORDS;
+    use crate::rules::put;
 
     /// Differing cases that are written out.
     const SHOWN: u64 = 5;
@@ -110,11 +121,11 @@ mod with_proved {
     /// Compares the rules with the proved library; true when nothing differs.
     pub fn compare(cases: usize, seed: u64) -> bool {
         let fixed = lists::fixed_cases();
-        let mut tally = Tally::default();
+        let mut tally = Tally::new();
         let mut differing = 0;
         for index in 0..cases {
             let case = lists::case(&fixed, index, seed);
-            let found = compare_case(&case, answer_len(index), &mut tally);
+            let found = compare_case(&case, answer_len(case.kind, index), &mut tally);
             if found.is_empty() {
                 continue;
             }
@@ -126,20 +137,24 @@ mod with_proved {
             }
         }
         print!("{}", tally.lines(10));
-        println!("{cases} lists, {} of them fixed", fixed.len().min(cases));
+        println!("{cases} cases, {} of them fixed", fixed.len().min(cases));
         println!("{differing} differences");
         differing == 0
     }
 
     /// Mostly room for the whole answer, at times less, as for the five numbers without the bit, or
     /// more.
-    fn answer_len(index: usize) -> usize {
-        [6, 6, 5, 6, 6, 0, 6, 1, 6, 2, 5, 3, 6, 4, 7, 9, 6][index % 17]
+    fn answer_len(kind: CaseKind, index: usize) -> usize {
+        let lengths = match kind {
+            CaseKind::List => [6, 6, 5, 6, 6, 0, 6, 1, 6, 2, 5, 3, 6, 4, 7, 9, 6],
+            CaseKind::Session => [7, 7, 6, 7, 7, 0, 7, 1, 5, 2, 6, 3, 7, 4, 8, 10, 7],
+        };
+        lengths[index % lengths.len()]
     }
 
     fn compare_case(case: &Case, answer_len: usize, tally: &mut Tally) -> Vec<String> {
         let mut found = Vec::new();
-        for function in Function::ALL {
+        for function in case.kind.functions() {
             let expected = outcome::of(function, rules::paper(), case);
             tally.count(function, expected.answer[0]);
             let call = proved::call(function, case, answer_len);
@@ -147,7 +162,7 @@ mod with_proved {
         }
         let disagreement = agreement::disagreement(case, |function, case| {
             let expected = outcome::of(function, rules::paper(), case);
-            let call = proved::call(function, case, ANSWER_WORDS);
+            let call = proved::call(function, case, expected.numbers().len());
             differences(function.name(), case, &expected, &call, &mut found);
             call.outcome()
         });
@@ -167,13 +182,13 @@ mod with_proved {
             found.push(format!("{name} returned {}, expected {returned}", call.returned));
         }
         let mut answer = prefilled(call.answer.len());
-        let room = answer.len().min(ANSWER_WORDS);
-        answer[..room].copy_from_slice(&expected.answer[..room]);
+        put(&mut answer, &expected.numbers());
         if call.answer != answer {
             found.push(format!("{name} answer {:?}, expected {answer:?}", call.answer));
         }
         let pairs = [
             ("list", &case.list, &call.list),
+            ("table", &case.arguments, &call.arguments),
             ("image", &expected.image, &call.image),
             ("buffer", &expected.buffer, &call.buffer),
         ];

@@ -1,9 +1,10 @@
-//! Test cases: lists with a starting image and buffer lengths, the same for the same seed.
+//! Test cases: lists and sessions with a starting image and buffer lengths, the same for the same seed.
 
 mod commands;
 mod fixed;
 mod pairs;
 mod random;
+mod sessions;
 
 use self::commands::table;
 use crate::prng::{self, Prng};
@@ -12,16 +13,30 @@ use crate::rules::{self, IMAGE_WORDS, RECORD_WORDS};
 pub use fixed::{fixed_cases, fixed_sample};
 pub use pairs::{pairs as pairs_of, random_pairs};
 pub use random::{any_list, any_refused_list, equivalent_list, random_case};
+pub use sessions::{fixed_sessions, random_session, stored_sessions};
 
 #[derive(Clone)]
 pub struct Case {
     pub class: &'static str,
+    pub kind: CaseKind,
+    /// A list, or the words in which the lists of a session lie.
     pub list: Vec<u32>,
+    /// The table of a session.
+    pub arguments: Vec<u32>,
     pub image: Image,
     pub records_len: usize,
     pub out_len: usize,
     /// For pairs of the list, and for the list of its words as pairs.
     pub pci_len: usize,
+}
+
+/// What a case is. Its number is the case's tag in the vectors file.
+#[derive(Clone, Copy, Debug, PartialEq, Eq)]
+pub enum CaseKind {
+    /// A list, also taken as pairs.
+    List,
+    /// Several lists, and a table of their starts and lengths.
+    Session,
 }
 
 #[derive(Clone)]
@@ -70,12 +85,17 @@ impl Purpose {
     }
 }
 
-/// Case number `index`: the fixed ones first, then random ones, every third of pairs.
+/// Case number `index`: the fixed ones first, then random ones, every third of pairs and every sixth a
+/// session.
 pub fn case(fixed: &[Case], index: usize, seed: u64) -> Case {
     match fixed.get(index) {
         Some(case) => case.clone(),
         None => {
-            let of = if index % 3 == 2 { random_pairs } else { random_case };
+            let of = match index % 6 {
+                2 | 5 => random_pairs,
+                4 => random_session,
+                _ => random_case,
+            };
             of(&mut Prng::new(seed, index as u64), Purpose::Run)
         }
     }
@@ -103,7 +123,8 @@ fn with_buffers(
     let records_len = purpose.buffer_length(any_buffer_length(rng, needed.records));
     let out_len = purpose.buffer_length(any_buffer_length(rng, needed.form));
     let pci_len = purpose.pci_length(any_buffer_length(rng, needed.pci));
-    Case { class, list, image, records_len, out_len, pci_len }
+    let (kind, arguments) = (CaseKind::List, Vec::new());
+    Case { class, kind, list, arguments, image, records_len, out_len, pci_len }
 }
 
 /// The list with a zero image and room for everything.
@@ -111,7 +132,8 @@ fn plain(class: &'static str, list: Vec<u32>, purpose: Purpose) -> Case {
     let records_len = purpose.buffer_length(RECORD_WORDS * list.len() + 4);
     let out_len = purpose.buffer_length(list.len() + 4);
     let pci_len = purpose.pci_length(2 * list.len() + 4);
-    Case { class, list, image: Image::ZERO, records_len, out_len, pci_len }
+    let (kind, arguments, image) = (CaseKind::List, Vec::new(), Image::ZERO);
+    Case { class, kind, list, arguments, image, records_len, out_len, pci_len }
 }
 
 /// The words that have to be written, 0 on refusal.

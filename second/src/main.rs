@@ -1,4 +1,4 @@
-//! A second implementation of document 01, with Tickets 1 to 4 of document 02, and of the tool, to
+//! A second implementation of document 01, with Tickets 1 to 5 of document 02, and of the tool, to
 //! compare with the proved one.
 
 mod agreement;
@@ -25,8 +25,8 @@ use std::process::ExitCode;
 
 const USAGE: &str = "\
 usage: second self-test          check the rules against the paper's cases and demand 3
-       second count N [SEED]     count the verdicts on N lists
-       second compare N [SEED]   compare with the proved library on N lists (feature `proved`)
+       second count N [SEED]     count the verdicts on N cases
+       second compare N [SEED]   compare with the proved library on N cases (feature `proved`)
        second case K [SEED]      print case K and what the rules give for it
        second mutants FOLDER [NAME]   show which stored case sees each change of the rules, or each
                                  whose name begins with NAME; the crates' stored files are in FOLDER

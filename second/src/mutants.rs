@@ -6,12 +6,13 @@ mod effects;
 mod equivalent;
 mod orders;
 mod runs;
+mod scenes;
 mod stored;
 mod thresholds;
 
 use crate::listings;
-use crate::lists::{self, Case, Purpose};
-use crate::outcome::{self, Function};
+use crate::lists::{self, Case, CaseKind, Purpose};
+use crate::outcome::{self, Function, Outcome};
 use crate::rules;
 use crate::runs as tool_runs;
 use changes::Mutant;
@@ -149,8 +150,8 @@ fn shown(mutants: &[&Mutant], fixed: &[Case]) -> usize {
             break;
         }
         let case = lists::case(fixed, index, 1);
-        let expected =
-            Function::ALL.map(|function| (function, outcome::of(function, rules::paper(), &case)));
+        let of = |function| (function, outcome::of(function, rules::paper(), &case));
+        let expected: Vec<(Function, Outcome)> = case.kind.functions().map(of).collect();
         open.retain(|mutant| {
             let concerned = expected.iter().filter(|(function, _)| mutant.concerns(*function));
             let mut differences = concerned.filter_map(|(function, expected)| {
@@ -168,7 +169,7 @@ fn shown(mutants: &[&Mutant], fixed: &[Case]) -> usize {
 }
 
 fn other_listing(mutant: &Mutant, case: &Case) -> Option<String> {
-    if !mutant.is_of_listing() {
+    if !mutant.is_of_listing() || case.kind != CaseKind::List {
         return None;
     }
     let input = listings::bytes(&case.list);

@@ -1,7 +1,7 @@
 //! What a call gives for a case: the answer, and all lent words afterwards.
 
-use crate::lists::Case;
-use crate::rules::{self, Rules, ANSWER_WORDS};
+use crate::lists::{Case, CaseKind};
+use crate::rules::{self, Rules, ScenesAnswer, ANSWER_WORDS};
 
 #[derive(Clone, Copy, Debug, PartialEq, Eq)]
 pub enum Function {
@@ -10,19 +10,34 @@ pub enum Function {
     ToPci,
     FromPci,
     Measure,
+    Scenes,
 }
 
 impl Function {
-    pub const ALL: [Function; 5] = [
+    pub const ALL: [Function; 6] = [
         Function::Reader,
         Function::Normaliser,
         Function::ToPci,
         Function::FromPci,
         Function::Measure,
+        Function::Scenes,
     ];
 
     pub fn name(self) -> &'static str {
-        ["reader", "normaliser", "to_pci", "from_pci", "measure"][self as usize]
+        ["reader", "normaliser", "to_pci", "from_pci", "measure", "read_scenes"][self as usize]
+    }
+
+    /// The cases that it runs on.
+    pub fn kind(self) -> CaseKind {
+        match self {
+            Function::Scenes => CaseKind::Session,
+            _ => CaseKind::List,
+        }
+    }
+
+    /// It changes the image.
+    pub fn applies(self) -> bool {
+        matches!(self, Function::Reader | Function::Scenes)
     }
 
     /// It is lent a buffer, for the words that its answer counts.
@@ -33,17 +48,21 @@ impl Function {
     /// The words of the buffer that it is lent.
     pub fn buffer_len(self, case: &Case) -> usize {
         match self {
-            Function::Reader => case.records_len,
+            Function::Reader | Function::Scenes => case.records_len,
             Function::Normaliser => case.out_len,
             Function::ToPci | Function::FromPci => case.pci_len,
             Function::Measure => 0,
         }
     }
 
-    /// The list that it reads: the case's words, or what they are as pairs.
+    /// The list that it reads: the case's words, or what they are as pairs, or what of them is in the list
+    /// at which a session stops.
     pub fn list_of(self, case: &Case) -> Vec<u32> {
         match self {
             Function::FromPci => rules::paper().from_pci.recovered(&case.list).values,
+            Function::Scenes => {
+                rules::paper().scenes.list(&case.list, &case.arguments, lists_applied(case))
+            }
             _ => case.list.clone(),
         }
     }
@@ -55,15 +74,32 @@ impl Function {
             Function::Measure => &[0, 1, 2, 3, 4, 5, 6, 7, 9, 10],
             _ => &[0, 1, 2, 3, 4, 5, 6, 7, 9, 10, 11],
         };
-        [own, &[15, 16, 17, 18, 19]].concat()
+        let pairs: &[u32] = if self == Function::Scenes { &[20] } else { &[] };
+        [own, &[15, 16, 17, 18, 19], pairs].concat()
+    }
+}
+
+impl CaseKind {
+    /// The functions that run on such a case.
+    pub fn functions(self) -> impl Iterator<Item = Function> {
+        Function::ALL.into_iter().filter(move |function| function.kind() == self)
     }
 }
 
 pub struct Outcome {
     pub answer: [u32; ANSWER_WORDS],
+    /// The numbers behind the six: of a session the lists applied.
+    pub more: Vec<u32>,
     pub image: Vec<u32>,
     /// For the records, the form, the pairs or the list of pairs.
     pub buffer: Vec<u32>,
+}
+
+impl Outcome {
+    /// All numbers of the answer.
+    pub fn numbers(&self) -> Vec<u32> {
+        [&self.answer, &self.more[..]].concat()
+    }
 }
 
 /// What a buffer holds before a call.
@@ -71,25 +107,36 @@ pub fn prefilled(len: usize) -> Vec<u32> {
     (0..len as u32).map(|k| 0xA500_0000 + k).collect()
 }
 
-/// The case's words are a list, but pairs for `FromPci`.
+fn lists_applied(session: &Case) -> usize {
+    of(Function::Scenes, rules::paper(), session).more[0] as usize
+}
+
+/// The case's words are a list, but pairs for `FromPci`, and for `Scenes` several lists.
 pub fn of(function: Function, rules: &Rules, case: &Case) -> Outcome {
     let mut image = case.image.words();
     let mut buffer = prefilled(function.buffer_len(case));
+    let mut more = Vec::new();
     let answer = match function {
         Function::Reader => rules.read(&case.list, &mut image, &mut buffer),
         Function::Normaliser => rules.normalise(&case.list, &image, &mut buffer),
         Function::ToPci => rules.to_pci(&case.list, &image, &mut buffer),
         Function::FromPci => rules.from_pci(&case.list, &image, &mut buffer),
         Function::Measure => rules.measure(&case.list, &image),
+        Function::Scenes => {
+            let ScenesAnswer { answer, lists } =
+                rules.read_scenes(&case.list, &case.arguments, &mut image, &mut buffer);
+            more.push(lists);
+            answer
+        }
     };
-    Outcome { answer: answer.numbers(), image, buffer }
+    Outcome { answer: answer.numbers(), more, image, buffer }
 }
 
 /// The first thing that isn't as expected.
 pub fn difference(function: Function, given: &Outcome, expected: &Outcome) -> Option<String> {
     let name = function.name();
-    if given.answer != expected.answer {
-        return Some(format!("{name} {:?}, not {:?}", given.answer, expected.answer));
+    if given.numbers() != expected.numbers() {
+        return Some(format!("{name} {:?}, not {:?}", given.numbers(), expected.numbers()));
     }
     let pairs =
         [("image", &given.image, &expected.image), ("buffer", &given.buffer, &expected.buffer)];

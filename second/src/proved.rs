@@ -57,12 +57,26 @@ extern "C" {
         answer: *mut u32,
         answer_len: usize,
     ) -> u32;
+
+    fn xp10_read_scenes(
+        words: *const u32,
+        words_len: usize,
+        table: *const u32,
+        table_len: usize,
+        image: *mut u32,
+        image_len: usize,
+        records: *mut u32,
+        records_len: usize,
+        answer: *mut u32,
+        answer_len: usize,
+    ) -> u32;
 }
 
 /// What a call returned and left in the lent words.
 pub struct Call {
     pub returned: u32,
     pub list: Vec<u32>,
+    pub arguments: Vec<u32>,
     pub image: Vec<u32>,
     pub buffer: Vec<u32>,
     pub answer: Vec<u32>,
@@ -73,8 +87,9 @@ pub struct Call {
 impl Call {
     /// Of a call with room for the whole answer.
     pub fn outcome(self) -> Outcome {
-        let answer: [u32; ANSWER_WORDS] = self.answer.try_into().expect("a whole answer");
-        Outcome { answer, image: self.image, buffer: self.buffer }
+        let (answer, more) = self.answer.split_at(ANSWER_WORDS);
+        let answer: [u32; ANSWER_WORDS] = answer.try_into().expect("a whole answer");
+        Outcome { answer, more: more.to_vec(), image: self.image, buffer: self.buffer }
     }
 }
 
@@ -104,6 +119,7 @@ impl Lent {
 
 struct LentWords {
     list: Lent,
+    arguments: Lent,
     image: Lent,
     buffer: Lent,
     answer: Lent,
@@ -113,6 +129,7 @@ impl LentWords {
     fn new(case: &Case, buffer_len: usize, answer_len: usize) -> LentWords {
         LentWords {
             list: Lent::new(&case.list),
+            arguments: Lent::new(&case.arguments),
             image: Lent::new(&case.image.words()),
             buffer: Lent::new(&prefilled(buffer_len)),
             answer: Lent::new(&prefilled(answer_len)),
@@ -120,11 +137,12 @@ impl LentWords {
     }
 
     fn call(mut self, returned: u32) -> Call {
-        let lent = [&self.list, &self.image, &self.buffer, &self.answer];
+        let lent = [&self.list, &self.arguments, &self.image, &self.buffer, &self.answer];
         let kept_inside = lent.iter().all(|words| words.guards_kept());
         Call {
             returned,
             list: self.list.words().to_vec(),
+            arguments: self.arguments.words().to_vec(),
             image: self.image.words().to_vec(),
             buffer: self.buffer.words().to_vec(),
             answer: self.answer.words().to_vec(),
@@ -153,6 +171,7 @@ pub fn call(function: Function, case: &Case, answer_len: usize) -> Call {
         Function::ToPci => call_reading(xp10_to_pci, &mut lent),
         Function::FromPci => call_reading(xp10_from_pci, &mut lent),
         Function::Measure => measure(&mut lent),
+        Function::Scenes => read_scenes(&mut lent),
     };
     lent.call(returned)
 }
@@ -208,6 +227,29 @@ fn measure(lent: &mut LentWords) -> u32 {
             list.len(),
             image.as_ptr(),
             image.len(),
+            answer.as_mut_ptr(),
+            answer.len(),
+        )
+    }
+}
+
+fn read_scenes(lent: &mut LentWords) -> u32 {
+    let words = lent.list.words();
+    let table = lent.arguments.words();
+    let image = lent.image.words();
+    let records = lent.buffer.words();
+    let answer = lent.answer.words();
+    // SAFETY: as for `read`.
+    unsafe {
+        xp10_read_scenes(
+            words.as_ptr(),
+            words.len(),
+            table.as_ptr(),
+            table.len(),
+            image.as_mut_ptr(),
+            image.len(),
+            records.as_mut_ptr(),
+            records.len(),
             answer.as_mut_ptr(),
             answer.len(),
         )

@@ -1,6 +1,7 @@
 //! Reading, normalising and listing by document 01, with PCI writes by Ticket 1 of document 02, the
 //! bit and the clashes told by Ticket 2, the page thresholds by Ticket 3, and the form's length told
-//! by Ticket 4; and what the tool says and writes, by its own paper.
+//! by Ticket 4, and several lists in one call by Ticket 5; and what the tool says and writes, by its own
+//! paper.
 //!
 //! What the documents fix stands in `document` as a value of `Rules`; here is what they say to do
 //! with it. Nothing may panic for a `Rules` with one part changed, so that `mutants` can run it.
@@ -11,6 +12,7 @@ mod language;
 mod listing;
 mod measure;
 mod pci;
+mod scenes;
 mod shape;
 mod tool;
 
@@ -18,7 +20,10 @@ use std::ops::Range;
 use std::sync::LazyLock;
 
 pub use document::{Terms, IMAGE_WORDS, MAX_LIST_WORDS, NO_BIT, RECORD_WORDS};
-pub use language::{Address, Comparison, Facts, Field, Mask, Set, Test, Value};
+pub use language::{
+    Address, Comparison, Facts, Field, Mask, PairFacts, Quantity, Set, Test, Value,
+};
+pub use scenes::*;
 pub use shape::*;
 pub use tool::{words_of, Ids, Name, Names, Piece, RefusalRow, RefusalRows, Run, Task};
 
@@ -159,9 +164,17 @@ impl Rules {
 
     /// The commands of a list up to the first refused one, and its refusal by verdicts 3 to 10.
     pub fn walk<'a>(&'a self, list: &'a [u32]) -> (Vec<Command<'a>>, Option<Refusal>) {
+        self.walk_from(list, false)
+    }
+
+    /// The same, where a surface base may stand before the list.
+    fn walk_from<'a>(
+        &'a self,
+        list: &'a [u32],
+        mut after_base: bool,
+    ) -> (Vec<Command<'a>>, Option<Refusal>) {
         let mut found = Vec::new();
         let mut at = 0;
-        let mut after_base = false;
         while at < list.len() {
             let command = match self.command_at(list, at, after_base) {
                 Ok(command) => command,
@@ -177,7 +190,15 @@ impl Rules {
     }
 
     pub fn commands<'a>(&'a self, list: &'a [u32]) -> Result<Vec<Command<'a>>, Refusal> {
-        match self.walk(list) {
+        self.commands_from(list, false)
+    }
+
+    fn commands_from<'a>(
+        &'a self,
+        list: &'a [u32],
+        after_base: bool,
+    ) -> Result<Vec<Command<'a>>, Refusal> {
+        match self.walk_from(list, after_base) {
             (commands, None) => Ok(commands),
             (_, Some(refusal)) => Err(refusal),
         }
@@ -224,7 +245,19 @@ impl Rules {
         image: &mut [u32],
         records: &mut [u32],
     ) -> Result<Answer, Refusal> {
-        let commands = self.checked(list, image)?;
+        self.try_read_from(list, false, image, records)
+    }
+
+    /// The same, where a surface base may stand before the list.
+    fn try_read_from(
+        &self,
+        list: &[u32],
+        after_base: bool,
+        image: &mut [u32],
+        records: &mut [u32],
+    ) -> Result<Answer, Refusal> {
+        self.pass(&self.before_commands, &OTHER_ID, 0, &Facts::of(list, image))?;
+        let commands = self.commands_from(list, after_base)?;
         let found = self.records(&commands);
         let (needed, room) = (found.len(), self.record_room(records.len()));
         let facts = Facts { needed, room, ..Facts::of(list, image) };

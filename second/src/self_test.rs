@@ -1,9 +1,11 @@
-//! Checks of the rules: the paper's cases, and on random lists demand 3, the bit told and the form's
-//! length told.
+//! Checks of the rules: the paper's cases, and on random lists demand 3, the bit told, the form's length
+//! told and sessions.
+
+mod scenes;
 
 use crate::agreement;
 use crate::listings::bytes;
-use crate::lists::{self, Case, Purpose};
+use crate::lists::{self, Case, CaseKind, Purpose};
 use crate::outcome::{self, prefilled, Function};
 use crate::paper::{self, Expected, PaperCase};
 use crate::prng::Prng;
@@ -11,7 +13,7 @@ use crate::rules::{self, Answer, Refusal, Task, IMAGE_WORDS, NO_BIT, RECORD_WORD
 use crate::runs;
 
 /// Each panics when it fails.
-pub const CHECKS: [(&str, fn()); 13] = [
+pub const CHECKS: [(&str, fn()); 15] = [
     ("cases of document 01", paper_cases),
     ("the guide's writes", guide_writes),
     ("page thresholds", page_thresholds),
@@ -23,6 +25,8 @@ pub const CHECKS: [(&str, fn()); 13] = [
     ("demand 3", demand_3),
     ("equal doings, equal forms", equal_doings),
     ("pairs and back", pairs_and_back),
+    ("several scenes in one call", scenes::by_hand),
+    ("sessions and single calls", scenes::single_calls),
     ("the tool's texts", tool_texts),
     ("the tool and the functions", tool_and_functions),
 ];
@@ -176,7 +180,9 @@ fn tool_and_functions() {
         let room = 4 * list.len() + 8;
         let of_function = Case {
             class: "the tool's",
+            kind: CaseKind::List,
             list,
+            arguments: Vec::new(),
             image: lists::Image::Words(image),
             records_len: room,
             out_len: room,
@@ -205,7 +211,7 @@ fn lent_words() {
     for number in 0..RANDOM_LISTS {
         let of = if number % 3 == 2 { lists::random_pairs } else { lists::random_case };
         let case = of(&mut Prng::new(11, number), Purpose::Run);
-        for function in Function::ALL {
+        for function in CaseKind::List.functions() {
             let outcome = outcome::of(function, rules::paper(), &case);
             let [verdict, position, commands, records, words, _] = outcome.answer;
             let before = prefilled(outcome.buffer.len());
@@ -230,7 +236,7 @@ fn told_bit() {
     for number in 0..RANDOM_LISTS {
         let of = if number % 3 == 2 { lists::random_pairs } else { lists::random_case };
         let case = of(&mut Prng::new(16, number), Purpose::Run);
-        for function in Function::ALL {
+        for function in CaseKind::List.functions() {
             let [verdict, position, .., bit] = outcome::of(function, rules::paper(), &case).answer;
             assert_eq!(bit < NO_BIT, verdict == 6);
             assert!(bit <= NO_BIT);
@@ -287,12 +293,12 @@ fn room() {
     }
 }
 
-/// On every fixed case and on random ones; the buffer is too small in many of them.
+/// On every fixed list and on random ones; the buffer is too small in many of them.
 fn room_told() {
     let fixed = lists::fixed_cases();
     let mut too_small = 0;
-    for index in 0..fixed.len() + RANDOM_LISTS as usize {
-        let case = lists::case(&fixed, index, 18);
+    let all = (0..fixed.len() + RANDOM_LISTS as usize).map(|k| (k, lists::case(&fixed, k, 18)));
+    for (index, case) in all.filter(|(_, case)| case.kind == CaseKind::List) {
         let run = |function, case: &Case| outcome::of(function, rules::paper(), case);
         assert_eq!(agreement::disagreement(&case, run), None, "case {index}");
         let told = run(Function::Measure, &case).answer[4] as usize;
@@ -475,6 +481,16 @@ mod tests {
     #[test]
     fn pairs_and_back() {
         super::pairs_and_back();
+    }
+
+    #[test]
+    fn scenes_by_hand() {
+        super::scenes::by_hand();
+    }
+
+    #[test]
+    fn single_calls() {
+        super::scenes::single_calls();
     }
 
     #[test]

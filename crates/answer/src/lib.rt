@@ -1,9 +1,12 @@
 // An answer as words for a caller.
 use rules::Answer;
+use rules::Session;
 use words::put;
 ghost use mathlib.Core.Path.{_≡_};
+ghost use Prim.Native.Nat.{_^_, _<_};
 ghost use lib.Seq.{sets};
 ghost use Rattle.rules.specs.Answer.{answerWords};
+ghost use Rattle.rules.specs.Session.{sessionWords};
 ghost use Rattle.answer.specs.Small.{Small};
 
 // The six numbers of an answer, as many as there is room for.
@@ -17,4 +20,13 @@ pub fn write(a: Answer, answer: &mut [u32])
     put(answer, 3, a.records as u32);
     put(answer, 4, a.words as u32);
     put(answer, 5, a.bit);
+}
+
+// The seven of a session: the lists applied are the last.
+pub fn write_session(s: Session, answer: &mut [u32])
+    requires { ⌜ Small (s .answer) × (s .lists < 2 ^ 32) ⌝ }
+    ensures { λ _. ⌜ now (answer .exit) ≡ sets (now (answer .entry)) 0 (sessionWords s) ⌝ }
+{
+    write(s.answer, answer);
+    put(answer, 6, s.lists as u32);
 }

@@ -1,5 +1,5 @@
 -- Every number of an answer is small, and what a call gives back.
-use Prim.Native.Nat.{ℕ, _*_, _≤_}
+use Prim.Native.Nat.{ℕ, _*_, _^_, _≤_, _<_}
 use native.Mathlib.Omega.{arith}
 use mathlib.Core.Path.{_≡_, refl, ap, sym, _∙_, subst}
 use mathlib.Core.Bool.{Bool, true, false}
@@ -9,26 +9,27 @@ use lib.ListN.{length}
 use lib.Seq.{sets}
 use Rattle.rules.specs.Command.{Command, wordsAll}
 use Rattle.rules.specs.Walk.{Parsed, refused, accepted, parse}
-use Rattle.rules.specs.Image.{final}
-use Rattle.rules.specs.Records.{records, recordWords}
+use Rattle.rules.specs.Records.{records}
 use Rattle.rules.specs.Form.{form}
 use Rattle.rules.specs.declared.Refusal.{Refusal}
 use Rattle.rules.specs.declared.Answer.{Answer}
 use Rattle.rules.specs.Values.{refusal}
-use Rattle.rules.specs.Answer.{Outcome, answerWords, refusedAnswer, accept, fitting, room, readParsed, writeParsed, reading, normalising, measuring}
+use Rattle.rules.specs.Answer.{Outcome, answerWords, refusedAnswer, accept, fitting, room, writeParsed, reading, normalising, measuring}
 use Rattle.rules.specs.Pci.{pairsAll, values, parsePairs, toPci, fromPci}
+use Rattle.rules.specs.Session.{SessionOutcome, sessionWords, readingScenes}
 use Rattle.theory.proofs.Numbers.{RefusesList, parse-refuses}
-use Rattle.theory.proofs.Verdict.{length-recordWords}
 use Rattle.theory.proofs.Parse.{parse-accepted}
 use Rattle.theory.proofs.Form.{form-fits}
 use Rattle.theory.proofs.Records.{records-few}
 use Rattle.theory.proofs.Pci.{pairs-length, pairs-carry, pairs-refuses}
+use Rattle.theory.proofs.Counts.{reading-counts}
+use Rattle.theory.proofs.Session.{scenes-sound}
 use Rattle.theory.proofs.Demands.{told-is-enough, told-never-longer}
 use Rattle.answer.specs.Small.{Small}
-use Rattle.host.specs.Call.{callResult, answerResult}
+use Rattle.host.specs.Call.{callResult, answerResult, sessionResult}
 
 small-refused : (f : Refusal) → f .word ≤ 16384 → Small (refusedAnswer f)
-small-refused f h = record { position = h; commands = omega arith; records = omega arith; words = omega arith }
+small-refused f h = record { position = omega arith; commands = omega arith; records = omega arith; words = omega arith }
 
 -- accepted, or refused for want of room
 small-fitting : (ws image buffer : List ℕ) (short : Bool) (cs : List Command) (out left : List ℕ) → ws ≡ wordsAll cs → length ws ≤ 4096 → length out ≤ 16384
@@ -36,19 +37,13 @@ small-fitting : (ws image buffer : List ℕ) (short : Bool) (cs : List Command) 
 small-fitting ws image buffer true cs out left e few h = small-refused (refusal 11 (length ws)) (omega arith)
 small-fitting ws image buffer false cs out left e few h =
     let n = records-few 0 cs in
-    record { position = omega arith; commands = omega (arith, ap length e, n); records = omega (arith, ap length e, n); words = h }
+    record { position = omega arith; commands = omega (arith, ap length e, n); records = omega (arith, ap length e, n); words = omega arith }
 
 module _ (ws image buffer : List ℕ) where
-  small-read : (x : Parsed) → parse image ws ≡ x → RefusesList 4098 x → Small (readParsed ws image buffer x .answer)
-  small-read (refused f) e r = small-refused f (omega (arith, r .near))
-  small-read (accepted cs) e r =
-      let a = parse-accepted image ws cs e in
-      small-fitting ws image buffer (ltb (room buffer) (length (records 0 cs))) cs (recordWords (records 0 cs)) (final image cs) (a .parses .words-are) (a .few)
-      (omega (arith, a .few, ap length (a .parses .words-are), records-few 0 cs, length-recordWords (records 0 cs)))
-
   pub read-small : {o : Outcome} → o ≡ reading ws image buffer → Small (o .answer)
-  unfolding reading
-  read-small e = rw e (small-read (parse image ws) refl (parse-refuses image ws))
+  read-small e =
+      let c = reading-counts ws image buffer in
+      rw e (record { position = omega (arith, c .position); commands = omega (arith, c .commands); records = omega (arith, c .records); words = omega (arith, c .records, c .words) })
 
   -- a call that writes words made of the commands of a list
   small-write : (made : List Command → List ℕ) (x : Parsed) → RefusesList 4098 x
@@ -81,6 +76,21 @@ from-pci-small ps image buffer e =
     rw e (small-write (values ps) image buffer (λ cs. values ps) (parsePairs image ps) (pairs-refuses image ps)
     (λ cs p. (pairs-carry image ps cs p .parsed, omega arith)))
 
+pub session-small : (ws table image buffer : List ℕ) {o : SessionOutcome} → o ≡ readingScenes ws table image buffer
+    → Small (o .session .answer) × (o .session .lists < 2 ^ 32)
+session-small ws table image buffer e =
+    let s = scenes-sound ws table image buffer in
+    let b = s .bounded in
+    rw e (
+      record {
+        position = omega (arith, s .position);
+        commands = omega (arith, b .lists, b .commands);
+        records = omega (arith, b .lists, b .records);
+        words = omega (arith, b .lists, b .records, b .words);
+      },
+      omega (arith, b .lists),
+    )
+
 pub call-result : {o p : Outcome} {after : List ℕ} (answer : List ℕ) → o ≡ p → after ≡ sets answer 0 (answerWords (o .answer))
     → record { verdict = o .answer .verdict; image = o .image; buffer = o .buffer; answer = after } ≡ callResult p answer
 call-result answer e t = rw t (ap (λ (x : Outcome). callResult x answer) e)
@@ -88,3 +98,7 @@ call-result answer e t = rw t (ap (λ (x : Outcome). callResult x answer) e)
 pub answer-result : {a b : Answer} {after : List ℕ} (answer : List ℕ) → a ≡ b → after ≡ sets answer 0 (answerWords a)
     → record { verdict = a .verdict; answer = after } ≡ answerResult b answer
 answer-result answer e t = rw t (ap (λ (x : Answer). answerResult x answer) e)
+
+pub session-result : {o p : SessionOutcome} {after : List ℕ} (answer : List ℕ) → o ≡ p → after ≡ sets answer 0 (sessionWords (o .session))
+    → record { verdict = o .session .answer .verdict; image = o .image; buffer = o .buffer; answer = after } ≡ sessionResult p answer
+session-result answer e t = rw t (ap (λ (x : SessionOutcome). sessionResult x answer) e)

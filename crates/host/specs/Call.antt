@@ -4,6 +4,7 @@ use mathlib.Core.List.{List}
 use lib.Seq.{sets}
 use Rattle.rules.specs.declared.Answer.{Answer}
 use Rattle.rules.specs.Answer.{Outcome, answerWords}
+use Rattle.rules.specs.Session.{SessionOutcome, sessionWords}
 
 -- what a call returns, and the lent words after it
 pub record CallResult : Type 0 where
@@ -16,6 +17,11 @@ pub record CallResult : Type 0 where
 abbrev pub callResult : Outcome → List ℕ → CallResult
 callResult o answer =
     record { verdict = o .answer .verdict; image = o .image; buffer = o .buffer; answer = sets answer 0 (answerWords (o .answer)) }
+
+-- the same of a session, with its seven
+abbrev pub sessionResult : SessionOutcome → List ℕ → CallResult
+sessionResult o answer =
+    record { verdict = o .session .answer .verdict; image = o .image; buffer = o .buffer; answer = sets answer 0 (sessionWords (o .session)) }
 
 -- the same of a call that has nothing else to write
 pub record AnswerResult : Type 0 where

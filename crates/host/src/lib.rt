@@ -2,7 +2,8 @@
 ghost use mathlib.Core.Path.{_≡_};
 ghost use Rattle.rules.specs.Answer.{reading, normalising, measuring};
 ghost use Rattle.rules.specs.Pci.{toPci, fromPci};
-ghost use Rattle.host.specs.Call.{callResult, answerResult};
+ghost use Rattle.rules.specs.Session.{readingScenes};
+ghost use Rattle.host.specs.Call.{callResult, answerResult, sessionResult};
 
 // The reader.
 #[no_mangle]
@@ -17,6 +18,22 @@ pub extern "C" fn xp10_read(
     let a = reader::read(list, image, records);
     answer::write(a, answer);
     a.verdict
+}
+
+// The reader on several lists in turn.
+#[no_mangle]
+pub extern "C" fn xp10_read_scenes(
+    words: &[u32],
+    table: &[u32],
+    image: &mut [u32],
+    records: &mut [u32],
+    answer: &mut [u32],
+) -> u32
+    ensures { λ r. ⌜ record { verdict = r; image = now (image .exit); buffer = now (records .exit); answer = now (answer .exit) } ≡ sessionResult (readingScenes (now (words .entry)) (now (table .entry)) (now (image .entry)) (now (records .entry))) (now (answer .entry)) ⌝ }
+{
+    let s = session::read_scenes(words, table, image, records);
+    answer::write_session(s, answer);
+    s.answer.verdict
 }
 
 // The normaliser.

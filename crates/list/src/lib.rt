@@ -191,5 +191,7 @@ pub fn check(list: &[u32], image: &[u32]) -> Walked
     let mut rows = [table::UNKNOWN; 256];
     table::fill_rows(&mut rows);
     let masks = masks::mask_table();
-    walk(&rows, &masks, list)
+    // as a part of itself, so that callers hand the list over in registers
+    let n = list.len();
+    walk(&rows, &masks, &list[..n])
 }

@@ -1,17 +1,19 @@
 -- Cases P1 to P12 and N1 to N4 (document 01, "Cases on each side", as document 02, Tickets 2 and 3, changes them), lists
--- measured, and the guide's own PCI writes, in one table.
+-- measured, the guide's own PCI writes, and sessions, in one table.
 use Prim.Native.Nat.{ℕ, zero, suc}
 use mathlib.Core.Bool.{Bool, true, _&&_, _||_}
 use mathlib.Core.List.{List, [], _∷_, _++_}
 use lib.Dec.{eqb}
-use lib.ListN.{length, getD, replicate, set}
+use lib.ListN.{length, getD, drop, replicate, set}
 use Rattle.rules.specs.declared.Refusal.{Refusal}
 use Rattle.rules.specs.Form.{equal}
 use Rattle.rules.specs.Answer.{answerWords, Outcome, reading, normalising, measuring, written}
 use Rattle.rules.specs.Pci.{toPci, fromPci}
+use Rattle.rules.specs.Session.{sessionWords, readingScenes}
 
 -- what a case says of its list: its refusal, accepted with so many commands, accepted with a word of the new image,
--- accepted with a normal form, measured, accepted with its PCI writes; or of its pairs: their refusal
+-- accepted with a normal form, measured, accepted with its PCI writes; of its pairs: their refusal; or of the words as a
+-- buffer of lists, with a table of them: the numbers told, the records written, and image word 02
 pub data Want : Type 0 where
   refusedAs : Refusal → Want
   commands : ℕ → Want
@@ -20,6 +22,7 @@ pub data Want : Type 0 where
   measuredAs : List ℕ → Want
   writesAre : List ℕ → Want
   pairsRefusedAs : Refusal → Want
+  sessionIs : List ℕ → List ℕ → List ℕ → ℕ → Want
 
 pub record Case : Type 0 where
   pub list : List ℕ
@@ -63,6 +66,9 @@ holds ws image (writesAre ps) =
     && (answered (told 0 (length ws) 32) (fromPci ps image buffer) && (equal (written (fromPci ps image buffer)) ws
     && equal (written (fromPci (ps ++ (0x2800 ∷ [])) image buffer)) ws))
 holds ps image (pairsRefusedAs f) = refuses f image (fromPci ps image buffer)
+holds ws image (sessionIs table numbers recs w) =
+    let s = readingScenes ws table image buffer in
+    equal (sessionWords (s .session)) numbers && (equal (s .buffer) (recs ++ drop (length recs) buffer) && eqb (getD (s .image) 0x02 0) w)
 
 -- "it equals what the normaliser gives .. wherever that isn't 11"
 measuredAlike : List ℕ → List ℕ → Bool
@@ -93,6 +99,20 @@ n1 = 0x02000010 ∷ 0x02000020 ∷ 0x00000001 ∷ 0x02000020 ∷ []
 abbrev nullPrimitives : ℕ → List ℕ
 nullPrimitives zero = []
 nullPrimitives (suc n) = 0x48000000 ∷ 0 ∷ 0 ∷ 0 ∷ nullPrimitives n
+
+-- lists of a session: a surface base at the end of the first, 4 at the second word of (4, 2), 6 at the last word
+abbrev scenes : List ℕ
+scenes = 0x02000010 ∷ 0x00000001 ∷ 0x21000000 ∷ 0x00000002 ∷ 0x02000020 ∷ 0x03000000 ∷ 0x01000002 ∷ []
+
+-- the records of its first list and of its fourth word as of a list of its own
+abbrev flushed : List ℕ
+flushed = 0x00 ∷ 1 ∷ 1 ∷ 0x000001 ∷ []
+
+abbrev flipped : List ℕ
+flipped = flushed ++ (0x21 ∷ 2 ∷ 1 ∷ 0x000000 ∷ [])
+
+abbrev alone : List ℕ
+alone = 0x00 ∷ 0 ∷ 1 ∷ 0x000002 ∷ []
 
 unfoldable pub cases : List Case
 cases =
@@ -145,4 +165,19 @@ cases =
     -- the bit and a clash of the list that pairs carry
     ∷ fromZeros (0x2800 ∷ 0 ∷ 0x2804 ∷ 0x01000003 ∷ []) (pairsRefusedAs (told 6 1 0))
     ∷ fromZeros (0x2A20 ∷ 0x88004000 ∷ 0x2A24 ∷ 0 ∷ 0x2A28 ∷ 0 ∷ 0x2A2C ∷ 0 ∷ []) (pairsRefusedAt 17 0)
+    -- a list behind a surface base need not open with BEGIN; positions inside each list, sums, and the last list's length
+    ∷ fromZeros scenes (sessionIs (0 ∷ 3 ∷ 3 ∷ 2 ∷ []) (0 ∷ 2 ∷ 5 ∷ 3 ∷ 12 ∷ 32 ∷ 2 ∷ []) (flipped ++ alone) 0x20)
+    -- a refusal, of a command, of its bit, and for want of room: the lists before stay applied and counted
+    ∷ fromZeros scenes (sessionIs (0 ∷ 2 ∷ 4 ∷ 2 ∷ 3 ∷ 1 ∷ []) (4 ∷ 1 ∷ 2 ∷ 1 ∷ 4 ∷ 32 ∷ 1 ∷ []) flushed 0x10)
+    ∷ fromZeros scenes (sessionIs (0 ∷ 2 ∷ 6 ∷ 1 ∷ []) (6 ∷ 0 ∷ 2 ∷ 1 ∷ 4 ∷ 1 ∷ 1 ∷ []) flushed 0x10)
+    ∷ fromZeros scenes (sessionIs (0 ∷ 3 ∷ 3 ∷ 1 ∷ 1 ∷ 2 ∷ []) (11 ∷ 2 ∷ 4 ∷ 3 ∷ 12 ∷ 32 ∷ 2 ∷ []) (flipped ++ alone) 0x10)
+    -- 20 when its turn comes, and ahead of the image's size; no list at the buffer's end; an odd last word
+    ∷ fromZeros scenes (sessionIs (0 ∷ 2 ∷ 6 ∷ 2 ∷ []) (20 ∷ 0 ∷ 2 ∷ 1 ∷ 4 ∷ 32 ∷ 1 ∷ []) flushed 0x10)
+    ∷ fromZeros scenes (sessionIs (0xFFFFFFFF ∷ 1 ∷ []) (20 ∷ 0 ∷ 0 ∷ 0 ∷ 0 ∷ 32 ∷ 0 ∷ []) [] 0)
+    ∷ fromZeros scenes (sessionIs (7 ∷ 0 ∷ 5 ∷ []) (0 ∷ 0 ∷ 0 ∷ 0 ∷ 0 ∷ 32 ∷ 1 ∷ []) [] 0)
+    ∷ record { list = scenes; start = []; want = sessionIs (8 ∷ 0 ∷ []) (20 ∷ 0 ∷ 0 ∷ 0 ∷ 0 ∷ 32 ∷ 0 ∷ []) [] 0 }
+    ∷ record { list = scenes; start = []; want = sessionIs (7 ∷ 0 ∷ []) (2 ∷ 0 ∷ 0 ∷ 0 ∷ 0 ∷ 32 ∷ 0 ∷ []) [] 0 }
+    ∷ record { list = scenes; start = []; want = sessionIs (5 ∷ []) (0 ∷ 0 ∷ 0 ∷ 0 ∷ 0 ∷ 32 ∷ 0 ∷ []) [] 0 }
+    -- the 4,096th pair and the next
+    ∷ fromZeros scenes (sessionIs (replicate 8194 0) (20 ∷ 0 ∷ 0 ∷ 0 ∷ 0 ∷ 32 ∷ 4096 ∷ []) [] 0)
     ∷ []

@@ -11,4 +11,5 @@ pub mod Effect
 pub mod Form
 pub mod Answer
 pub mod Pci
+pub mod Session
 pub mod Cases

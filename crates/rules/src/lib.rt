@@ -22,3 +22,9 @@ pub struct Answer {
     pub records: usize,
     pub words: usize,
 }
+
+// The answer of a call on several lists, and how many of them are applied.
+pub struct Session {
+    pub answer: Answer,
+    pub lists: usize,
+}

@@ -1,13 +1,14 @@
--- The demands, about the definitions that the contracts of `read`, `normalise`, `measure`, `to_pci` and `from_pci` cite:
--- `reading`, `normalising`, `measuring`, `toPci` and `fromPci` give what the functions return and write. Lists, images,
--- pairs and buffers are any words whatever.
-use Prim.Native.Nat.{ℕ, _*_, _≤_, _<_}
+-- The demands, about the definitions that the contracts of `read`, `normalise`, `measure`, `to_pci`, `from_pci` and
+-- `read_scenes` cite: `reading`, `normalising`, `measuring`, `toPci`, `fromPci` and `readingScenes` give what the functions
+-- return and write. Lists, images, pairs, tables and buffers are any words whatever.
+use Prim.Native.Nat.{ℕ, _+_, _*_, _/_, _≤_, _<_}
 use native.Mathlib.Omega.{arith}
 use mathlib.Core.Path.{_≡_, ap, sym, _∙_, subst}
-use mathlib.Core.Bool.{true}
+use mathlib.Core.Bool.{true, _||_}
 use mathlib.Core.Logic.{_↔_}
-use mathlib.Core.List.{List, _++_}
-use lib.ListN.{length, getD, length-append}
+use mathlib.Core.List.{List, [], _∷_, _++_}
+use lib.Dec.{leb, ltb}
+use lib.ListN.{length, getD, drop, length-append}
 use Rattle.rules.specs.Word.{bits}
 use Rattle.rules.specs.Command.{Command, wordsAll}
 use Rattle.rules.specs.Walk.{parse}
@@ -16,13 +17,16 @@ use Rattle.rules.specs.Image.{final, Unset}
 use Rattle.rules.specs.Records.{records, recordWords, withoutPositions}
 use Rattle.rules.specs.Form.{form}
 use Rattle.rules.specs.declared.Answer.{Answer}
+use Rattle.rules.specs.declared.Refusal.{Refusal}
 use Rattle.rules.specs.Answer.{Outcome, refusedAnswer, refusalOf, tellsBit, refuse, accept, room, reading, normalising, measuring, commandsOf, does, normalForm, written}
 use Rattle.rules.specs.Pci.{pairsAll, values, wholePairs, parsePairs, toPci, fromPci}
 use Rattle.theory.proofs.Parse.{parse-accepted, accepted-parse}
 use Rattle.theory.proofs.Records.{records-few}
 use Rattle.theory.proofs.Verdict.{written-accept, reads, reading-zero, normalises, normalising-zero}
 use Rattle.theory.proofs.Pci.{values-all, whole-all, whole-values, pairs-length, carries-pairs, pairs-carry, to-pci, to-pci-zero, from-pci, from-pci-zero}
+use Rattle.rules.specs.Session.{SessionOutcome, opened, left, part, readFrom, readingScenes, Bounded}
 use Rattle.theory.proofs.Outcomes as laws
+use Rattle.theory.proofs.Session.{alone, SameApplied, StopsAt, first, nextPair, call-twenty, call-at-zero, call-reads, pair-refused, from-cut, scenes-sound, whole-stops, whole-accepted, stops-at, first-lists, one-pair, from-end}
 
 -- ---- Demand 1: "a refusal changes neither the image nor any buffer", and its counts are 0
 
@@ -371,3 +375,106 @@ same-pairs-same-list image ws us pairs pairs′ y z e =
     let back = list-comes-back image ws pairs lent y (omega (arith, length-append ws us)) .1 in
     let back′ = list-comes-back image us pairs′ lent z (omega (arith, length-append ws us)) .1 in
     sym back ∙ ap (λ (ps : List ℕ). written (fromPci ps image lent)) e ∙ back′
+
+-- ---- several lists in one call (document 02, Ticket 5)
+
+module _ (ws table image buffer : List ℕ) where
+  abbrev pub session : SessionOutcome
+  session = readingScenes ws table image buffer
+
+  -- "The first refused list stops the call; lists before it stay applied": the session over the pairs before is accepted, and
+  -- the answer is its own with the single call for the next pair
+  pub session-stops : (session .session .answer .verdict ≡ 0 → ⊥) → StopsAt ws table image buffer (session .session .lists)
+  session-stops = whole-stops ws table image buffer
+
+  -- "Demand 1 then means that the refusal itself changes nothing more": the image, the buffer and the counts are those of the
+  -- session over the pairs before
+  pub session-refused : (session .session .answer .verdict ≡ 0 → ⊥) → SameApplied session (first ws table image buffer (session .session .lists))
+  session-refused z =
+      let t = session-stops z in
+      subst (λ (o : SessionOutcome). SameApplied o (first ws table image buffer (session .session .lists))) (sym (t .is))
+      (pair-refused ws _ _ (first ws table image buffer (session .session .lists)) (λ e. z (ap (λ (o : SessionOutcome). o .session .answer .verdict) (t .is) ∙ e)))
+
+  -- accepted, it has applied the list of each pair
+  pub session-accepted : session .session .answer .verdict ≡ 0 → session .session .lists ≡ length table / 2
+  session-accepted = whole-accepted ws table image buffer
+
+  -- 20 "for a pair after the 4,096th or outside the buffer", where all lists before are applied
+  pub record PairOutside : Type 0 where
+    pub pair : ℕ
+    pub there : pair < length table / 2
+    pub applied-before : first ws table image buffer pair .session .answer .verdict ≡ 0
+    pub outside : (leb 4096 pair || ltb (length ws) (getD table (2 * pair) 0 + getD table (2 * pair + 1) 0)) ≡ true
+
+  pub twenty-exactly : (session .session .answer .verdict ≡ 20) ↔ PairOutside
+  twenty-exactly = (
+    λ e. let t = session-stops (λ z. omega (arith, z, e)) in
+        let k : ℕ = session .session .lists in
+        record {
+          pair = k;
+          there = t .there;
+          applied-before = t .accepted-before;
+          outside = rw (first-lists ws table image buffer k (omega (arith, t .there)) (t .accepted-before)) at
+              (call-twenty ws _ _ _ _ _ .0 (ap (λ (o : SessionOutcome). o .session .answer .verdict) (sym (t .is)) ∙ e));
+        },
+    λ p. let lists-are = first-lists ws table image buffer (p .pair) (omega (arith, p .there)) (p .applied-before) in
+        let given : nextPair ws table image buffer (p .pair) .session .answer .verdict ≡ 20 = call-twenty ws _ _ _ _ _ .1 (rw lists-are (p .outside)) in
+        let t = stops-at ws table image buffer (p .pair) (p .there) (p .applied-before) (λ z. omega (arith, z, given)) in
+        ap (λ (o : SessionOutcome). o .session .answer .verdict) (t .is) ∙ given,
+  )
+
+  -- "or 0 where 20 is given"
+  pub twenty-at-zero : session .session .answer .verdict ≡ 20 → session .session .answer .position ≡ 0
+  twenty-at-zero e =
+      let t = session-stops (λ z. omega (arith, z, e)) in
+      ap (λ (o : SessionOutcome). o .session .answer .position) (t .is)
+      ∙ call-at-zero ws _ _ _ _ _ (ap (λ (o : SessionOutcome). o .session .answer .verdict) (sym (t .is)) ∙ e)
+
+  -- the list of a pair
+  abbrev pub listOf : ℕ → List ℕ
+  listOf k = part ws (getD table (2 * k) 0) (getD table (2 * k + 1) 0)
+
+  -- every other refusal is the reader's, of the list that it stops at, "with the record room still left"
+  pub refused-by-the-reader : (session .session .answer .verdict ≡ 0 → ⊥) → (session .session .answer .verdict ≡ 20 → ⊥)
+      → refusalOf (session .session .answer)
+      ≡ refusalOf (reading (listOf (session .session .lists)) (first ws table image buffer (session .session .lists) .image)
+      (left (first ws table image buffer (session .session .lists))) .answer)
+  refused-by-the-reader z n =
+      let t = session-stops z in
+      ap (λ (o : SessionOutcome). refusalOf (o .session .answer)) (t .is)
+      ∙ ap (λ (o : Outcome). refusalOf (o .answer)) (call-reads ws _ _ _ _ _ (λ e. n (ap (λ (o : SessionOutcome). o .session .answer .verdict) (t .is) ∙ e)))
+
+  -- so with 6 the bit is set in that list's word at the position
+  pub session-bit-is-set : session .session .answer .verdict ≡ 6
+      → bits (getD (listOf (session .session .lists)) (session .session .answer .position) 0) (session .session .answer .bit) 1 ≡ 1
+  session-bit-is-set e =
+      let l : List ℕ = listOf (session .session .lists) in
+      let told = refused-by-the-reader (λ z. omega (arith, z, e)) (λ z. omega (arith, z, e)) in
+      subst (λ (f : Refusal). f .number ≡ 6 → bits (getD l (f .word) 0) (f .bit) 1 ≡ 1) (sym told) (reader-bit-is-set l _ _) e
+
+  -- the numbers of the answer
+  pub session-bounded : Bounded (session .session)
+  session-bounded = scenes-sound ws table image buffer .bounded
+
+  pub session-tells-bit : tellsBit (session .session .answer) ≡ true
+  session-tells-bit = scenes-sound ws table image buffer .tells
+
+  -- the words of the buffer behind those written are as before
+  pub behind-as-before : drop (session .session .answer .words) (session .buffer) ≡ drop (session .session .answer .words) buffer
+  behind-as-before = scenes-sound ws table image buffer .behind
+
+-- a session over a table cut in two is the second part's, begun where the first ended
+pub session-cut : (ws front table image buffer : List ℕ) (k : ℕ) → length front ≡ 2 * k
+    → readingScenes ws (front ++ table) image buffer ≡ readFrom ws table (readingScenes ws front image buffer)
+unfolding readingScenes
+session-cut ws front table image buffer k e = from-cut ws front table k (opened image buffer) e
+
+-- a session of one pair is the single call
+pub session-of-one : (ws image buffer : List ℕ) (start n : ℕ) → start + n ≤ length ws
+    → readingScenes ws (start ∷ n ∷ []) image buffer ≡ alone (reading (part ws start n) image buffer)
+session-of-one = one-pair
+
+-- "a table with no pair is accepted with any image"
+pub session-of-none : (ws table image buffer : List ℕ) → length table ≤ 1 → readingScenes ws table image buffer ≡ opened image buffer
+unfolding readingScenes
+session-of-none ws table image buffer h = from-end ws table (opened image buffer) h

@@ -12,5 +12,7 @@ pub mod Records
 pub mod Reading
 pub mod Outcomes
 pub mod Pci
+pub mod Counts
+pub mod Session
 pub mod Demands
 pub mod Walk

@@ -1,4 +1,4 @@
--- No refusal of a list has number 0 or 11, none stands far behind its list, and 6 alone has a bit.
+-- No refusal of a list has number 0, 11 or 20, none stands far behind its list, and 6 alone has a bit.
 use Prim.Native.Nat.{ℕ, zero, suc, _+_, _≤_}
 use native.Mathlib.Omega.{arith}
 use mathlib.Core.Path.{_≡_, refl}
@@ -18,9 +18,9 @@ use Rattle.rules.specs.Walk.{State, start, outOfOrder, next, Step, stop, took, 
 use Rattle.rules.specs.Answer.{refusedAnswer, tellsBit}
 use Rattle.theory.proofs.Bools.{and-left, and-right, neither}
 
--- 0 is acceptance, and 11 is about a lent buffer
+-- 0 is acceptance, 11 is about a lent buffer, and 20 about a pair of a table
 abbrev pub notOfList : ℕ → Bool
-notOfList n = eqb n 0 || eqb n 11
+notOfList n = eqb n 0 || (eqb n 11 || eqb n 20)
 
 -- a refusal has a number of its own, its word is at most m, and its bit is by its number
 pub record Proper (m : ℕ) (f : Refusal) : Type 0 where
@@ -28,11 +28,18 @@ pub record Proper (m : ℕ) (f : Refusal) : Type 0 where
   pub near : f .word ≤ m
   pub bit : tellsBit (refusedAnswer f) ≡ true
 
-pub not-zero : {m : ℕ} {f : Refusal} → Proper m f → eqb (f .number) 0 ≡ false
-not-zero {m} {f} p = neither (eqb (f .number) 0) (eqb (f .number) 11) (p .number) .0
+module _ {m : ℕ} {f : Refusal} (p : Proper m f) where
+  others : (eqb (f .number) 11 || eqb (f .number) 20) ≡ false
+  others = neither (eqb (f .number) 0) (eqb (f .number) 11 || eqb (f .number) 20) (p .number) .1
 
-pub not-eleven : {m : ℕ} {f : Refusal} → Proper m f → eqb (f .number) 11 ≡ false
-not-eleven {m} {f} p = neither (eqb (f .number) 0) (eqb (f .number) 11) (p .number) .1
+  pub not-zero : eqb (f .number) 0 ≡ false
+  not-zero = neither (eqb (f .number) 0) (eqb (f .number) 11 || eqb (f .number) 20) (p .number) .0
+
+  pub not-eleven : eqb (f .number) 11 ≡ false
+  not-eleven = neither (eqb (f .number) 11) (eqb (f .number) 20) others .0
+
+  pub not-twenty : eqb (f .number) 20 ≡ false
+  not-twenty = neither (eqb (f .number) 11) (eqb (f .number) 20) others .1
 
 -- each fault's where it is found
 abbrev pub AllProper : ℕ → List Fault → Type 0

@@ -1,25 +1,33 @@
-// Runs the second program's cases (second/README.md, "The vectors file") through the reader, the normaliser, the writer
-// and the reader of pairs, and the measurer, and compares a digest of all that they give. A wrong digest, and so a damaged
-// file, shows as a difference.
+// Runs the second program's cases (second/README.md, "The vectors file") through the functions that they are for, and
+// compares a digest of all that these give. A wrong digest, and so a damaged file, shows as a difference.
 use rules::Answer;
+use rules::Session;
 ghost use Prim.Native.Nat.{_+_, _<_, _≤_};
 ghost use lib.ListN.{length};
 
-// The tally has the verdicts of each function in turn, the cases, and the differences. A function is named by its place
-// there.
-const VERDICTS: usize = 20;
+// The words in front of a case: its tag, how many words and arguments it has, the image's seed and length, the lengths of
+// the record, output and PCI buffers, and the digest.
+const FRONT: usize = 9;
 
+// The functions. A case with tag 0 is a list, for the first five; with tag 1 it is a session.
 const READER: usize = 0;
 
-const NORMALISER: usize = VERDICTS;
+const NORMALISER: usize = 1;
 
-const TO_PCI: usize = 2 * VERDICTS;
+const TO_PCI: usize = 2;
 
-const FROM_PCI: usize = 3 * VERDICTS;
+const FROM_PCI: usize = 3;
 
-const MEASURER: usize = 4 * VERDICTS;
+const MEASURER: usize = 4;
 
-const CASES: usize = 5 * VERDICTS;
+const SCENES: usize = 5;
+
+const FUNCTIONS: usize = 6;
+
+// The tally has the verdicts of each function in turn, the cases, and the differences.
+const VERDICTS: usize = 33;
+
+const CASES: usize = FUNCTIONS * VERDICTS;
 
 const DIFFERENCES: usize = CASES + 1;
 
@@ -32,6 +40,8 @@ fn least(a: usize, b: usize) -> usize
 }
 
 // ---- digests
+
+const DIGEST: u32 = 0x811C9DC5;
 
 fn mix(digest: u32, word: u32) -> u32 {
     (((digest as u64) * 16777619 + (word as u64)) % 4294967296) as u32
@@ -95,41 +105,54 @@ fn add(tally: &mut [u32; TALLY], i: usize) {
     }
 }
 
-// A function on a list, which the reader of pairs takes as pairs.
-fn call(function: usize, list: &[u32], image: &mut [u32], buffer: &mut [u32]) -> Answer {
+// The answer of a function that is not for several lists.
+fn alone(answer: Answer) -> Session {
+    Session { answer, lists: 0 }
+}
+
+// A function on the case's words: a list, pairs, or with the arguments as a table the lists of a session.
+fn call(
+    function: usize,
+    words: &[u32],
+    arguments: &[u32],
+    image: &mut [u32],
+    buffer: &mut [u32],
+) -> Session {
     match function {
-        READER => reader::read(list, image, buffer),
-        NORMALISER => form::normalise(list, image, buffer),
-        TO_PCI => pci_writer::to_pci(list, image, buffer),
-        MEASURER => form::measure(list, image),
-        _ => pci_reader::from_pci(list, image, buffer),
+        READER => alone(reader::read(words, image, buffer)),
+        NORMALISER => alone(form::normalise(words, image, buffer)),
+        TO_PCI => alone(pci_writer::to_pci(words, image, buffer)),
+        FROM_PCI => alone(pci_reader::from_pci(words, image, buffer)),
+        MEASURER => alone(form::measure(words, image)),
+        _ => session::read_scenes(words, arguments, image, buffer),
     }
 }
 
-// The digest of what it gives; of the reader, of the image too, and of the measurer, of its answer alone.
+// The digest of what it gives: the answer, with the lists applied of a session; the image where it is changed; the buffer
+// where there is one.
 fn digest_of(
     function: usize,
-    list: &[u32],
+    words: &[u32],
+    arguments: &[u32],
     image: &mut [u32],
     buffer: &mut [u32],
     start: u32,
     tally: &mut [u32; TALLY],
 ) -> u32
-    requires { ⌜ function ≤ 80 ⌝ }
+    requires { ⌜ function ≤ 5 ⌝ }
 {
-    let a = call(function, list, image, buffer);
+    let s = call(function, words, arguments, image, buffer);
     add(
         tally,
-        function + least(words::wide(a.verdict), VERDICTS - 1),
+        function * VERDICTS + least(words::wide(s.answer.verdict), VERDICTS - 1),
     );
-    let digest = mix_answer(start, a);
-    if function == MEASURER {
-        return digest;
+    let digest = mix_answer(start, s.answer);
+    match function {
+        READER => mix_words(mix_words(digest, image), buffer),
+        SCENES => mix_words(mix_words(mix_number(digest, s.lists), image), buffer),
+        MEASURER => digest,
+        _ => mix_words(digest, buffer),
     }
-    if function == READER {
-        return mix_words(mix_words(digest, image), buffer);
-    }
-    mix_words(digest, buffer)
 }
 
 // The same from the image and with the room that the case's front says. A length that is too large is cut, here and
@@ -138,21 +161,23 @@ fn run_function(
     function: usize,
     front: &[u32],
     room: usize,
-    list: &[u32],
+    words: &[u32],
+    arguments: &[u32],
     image: &mut [u32],
     buffer: &mut [u32],
     start: u32,
     tally: &mut [u32; TALLY],
 ) -> u32
-    requires { ⌜ (function ≤ 80) × (room < 7) × (7 ≤ length (now front)) ⌝ }
+    requires { ⌜ (function ≤ 5) × (room < 9) × (9 ≤ length (now front)) ⌝ }
 {
-    fill_image(image, front[1]);
+    fill_image(image, front[3]);
     fill_buffer(buffer);
-    let i = least(words::wide(front[2]), image.len());
+    let i = least(words::wide(front[4]), image.len());
     let n = least(words::wide(front[room]), buffer.len());
     digest_of(
         function,
-        list,
+        words,
+        arguments,
         &mut image[..i],
         &mut buffer[..n],
         start,
@@ -160,26 +185,27 @@ fn run_function(
     )
 }
 
-// The digest of all functions on the case with these seven words in front of its list. Both directions of PCI writes have
-// the same room, and the measurer has none.
-fn run_case(
+// The digest of all functions on a list. Both directions of PCI writes have the same room, and the measurer has none.
+fn run_list(
     front: &[u32],
-    list: &[u32],
+    words: &[u32],
+    arguments: &[u32],
     image: &mut [u32],
     buffer: &mut [u32],
     tally: &mut [u32; TALLY],
 ) -> u32
-    requires { ⌜ 7 ≤ length (now front) ⌝ }
+    requires { ⌜ 9 ≤ length (now front) ⌝ }
 {
-    let mut digest = 0x811C9DC5;
-    let mut k = 0;
-    while k < 5 {
-        let room = least(3 + k, 5);
+    let mut digest = DIGEST;
+    let mut k = READER;
+    while k < SCENES {
+        let room = least(5 + k, 7);
         digest = run_function(
-            k * VERDICTS,
+            k,
             front,
             room,
-            list,
+            words,
+            arguments,
             image,
             buffer,
             digest,
@@ -188,6 +214,33 @@ fn run_case(
         k += 1;
     }
     digest
+}
+
+// The digest of the functions that the tag is for.
+fn run_case(
+    front: &[u32],
+    words: &[u32],
+    arguments: &[u32],
+    image: &mut [u32],
+    buffer: &mut [u32],
+    tally: &mut [u32; TALLY],
+) -> u32
+    requires { ⌜ 9 ≤ length (now front) ⌝ }
+{
+    if front[0] == 0 {
+        return run_list(front, words, arguments, image, buffer, tally);
+    }
+    run_function(
+        SCENES,
+        front,
+        5,
+        words,
+        arguments,
+        image,
+        buffer,
+        DIGEST,
+        tally,
+    )
 }
 
 // ---- the program
@@ -207,18 +260,29 @@ fn print_column(n: u32) {
     print_number(n);
 }
 
+// The count of a verdict from each function.
+fn print_row(tally: &[u32; TALLY], verdict: usize)
+    requires { ⌜ verdict < 33 ⌝ }
+{
+    io::print_decimal(1, verdict as u64);
+    let mut f = 0;
+    while f < FUNCTIONS {
+        print_column(tally[f * VERDICTS + verdict]);
+        f += 1;
+    }
+    io::write_all(1, b"\n");
+}
+
 fn print(tally: &[u32; TALLY]) {
     print_line(b"vectors ", tally[CASES]);
     print_line(b"differences ", tally[DIFFERENCES]);
-    io::write_all(1, b"verdict reader normaliser to_pci from_pci measure\n");
+    io::write_all(
+        1,
+        b"verdict reader normaliser to_pci from_pci measure read_scenes\n",
+    );
     let mut v = 0;
     while v < VERDICTS {
-        io::print_decimal(1, v as u64);
-        print_column(tally[v]);
-        print_column(tally[NORMALISER + v]);
-        print_column(tally[TO_PCI + v]);
-        print_column(tally[FROM_PCI + v]);
-        print_line(b" ", tally[MEASURER + v]);
+        print_row(tally, v);
         v += 1;
     }
 }
@@ -239,30 +303,39 @@ fn next_words(words: &mut [u32]) -> usize {
 
 // The next case; false where there is none.
 fn next_case(
-    list: &mut [u32],
+    words: &mut [u32],
+    arguments: &mut [u32],
     image: &mut [u32],
     buffer: &mut [u32],
     tally: &mut [u32; TALLY],
 ) -> bool {
-    let mut front = [0u32; 7];
-    if next_words(&mut front) < 7 {
+    let mut front = [0u32; FRONT];
+    if next_words(&mut front) < FRONT {
         return false;
     }
-    let n = least(words::wide(front[0]), list.len());
-    next_words(&mut list[..n]);
-    let digest = run_case(&front, &list[..n], image, buffer, tally);
+    let n = least(words::wide(front[1]), words.len());
+    next_words(&mut words[..n]);
+    let m = least(words::wide(front[2]), arguments.len());
+    next_words(&mut arguments[..m]);
+    let digest = run_case(&front, &words[..n], &arguments[..m], image, buffer, tally);
     add(tally, CASES);
-    if digest != front[6] {
+    if digest != front[8] {
         add(tally, DIFFERENCES);
     }
     true
 }
 
 // A file may have 65,536 cases.
-fn all(list: &mut [u32], image: &mut [u32], buffer: &mut [u32], tally: &mut [u32; TALLY]) {
+fn all(
+    words: &mut [u32],
+    arguments: &mut [u32],
+    image: &mut [u32],
+    buffer: &mut [u32],
+    tally: &mut [u32; TALLY],
+) {
     let mut i: usize = 0;
     while i < 65536 {
-        if !next_case(list, image, buffer, tally) {
+        if !next_case(words, arguments, image, buffer, tally) {
             return;
         }
         i += 1;
@@ -270,10 +343,17 @@ fn all(list: &mut [u32], image: &mut [u32], buffer: &mut [u32], tally: &mut [u32
 }
 
 fn main() {
-    let mut list = [0u32; 8200];
+    let mut words = [0u32; 8200];
+    let mut arguments = [0u32; 8200];
     let mut image = [0u32; 300];
     let mut buffer = [0u32; 8200];
     let mut tally = [0u32; TALLY];
-    all(&mut list, &mut image, &mut buffer, &mut tally);
+    all(
+        &mut words,
+        &mut arguments,
+        &mut image,
+        &mut buffer,
+        &mut tally,
+    );
     print(&tally);
 }

@@ -4,7 +4,7 @@ use super::commands::{
     bits_of_word, clip, first_word, load_word, rows, table, valid, zeros, BEGINS, GROUPS,
     LEGAL_CODES, SURFACE_BASES,
 };
-use super::{pairs, plain, with_buffers, with_surroundings, Case, Image, Purpose};
+use super::{pairs, plain, sessions, with_buffers, with_surroundings, Case, Image, Purpose};
 use crate::paper;
 use crate::prng::{self, Prng};
 use crate::rules::{self, Kind, Row, IMAGE_WORDS, MAX_LIST_WORDS};
@@ -90,7 +90,8 @@ fn sets() -> Vec<Set> {
     ]
 }
 
-/// Every list of the sets twice: with a zero image and room, and with other surroundings.
+/// Every list of the sets twice, with a zero image and room, and with other surroundings; then the cases
+/// with surroundings of their own, and the sessions.
 pub fn fixed_cases() -> Vec<Case> {
     let mut cases = Vec::new();
     for set in sets() {
@@ -102,6 +103,7 @@ pub fn fixed_cases() -> Vec<Case> {
     }
     cases.extend(paper_images());
     cases.extend(stored_whole());
+    cases.extend(sessions::fixed_sessions());
     cases
 }
 

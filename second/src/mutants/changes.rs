@@ -1,8 +1,8 @@
 //! All the changes: of each part of the rules, of orders, of the clashes' numbers, of single page
-//! thresholds, of answers and lent words, of the tool's runs.
+//! thresholds, of sessions, of answers and lent words, of the tool's runs.
 
-use super::{clashes, effects, orders, runs, thresholds};
-use crate::lists::Case;
+use super::{clashes, effects, orders, runs, scenes, thresholds};
+use crate::lists::{Case, CaseKind};
 use crate::outcome::{self, Function, Outcome};
 use crate::rules::{self, Rules, Run, Terms};
 use crate::runs::RunCase;
@@ -66,9 +66,14 @@ impl Mutant {
         Mutant { name, change: Change::Run(Box::new(change)), function: None, of_tool: true }
     }
 
-    /// The change may be in what the function gives.
+    /// The change may be in what the function gives. Outcomes of sessions are changed by themselves.
     pub fn concerns(&self, function: Function) -> bool {
-        !self.of_tool && self.function.is_none_or(|alone| alone == function)
+        match (self.function, &self.change) {
+            _ if self.of_tool => false,
+            (Some(alone), _) => alone == function,
+            (None, Change::Outcome(_)) => function.kind() == CaseKind::List,
+            (None, _) => true,
+        }
     }
 
     pub fn run(&self, function: Function, case: &Case) -> Outcome {
@@ -120,6 +125,7 @@ fn changed_alone(changed: &Rules) -> Option<Function> {
         (Function::ToPci, Rules { to_pci: other().to_pci, ..paper() }),
         (Function::FromPci, Rules { from_pci: other().from_pci, ..paper() }),
         (Function::Measure, Rules { measure: other().measure, ..paper() }),
+        (Function::Scenes, Rules { scenes: other().scenes, ..paper() }),
     ];
     of_one.into_iter().find(|(_, rules)| rules == changed).map(|(function, _)| function)
 }
@@ -133,6 +139,7 @@ pub fn all() -> Vec<Mutant> {
     all.extend(orders::all());
     all.extend(clashes::all());
     all.extend(thresholds::all());
+    all.extend(scenes::all());
     all.extend(effects::all());
     all.extend(runs::all());
     all

@@ -4,9 +4,10 @@ mod bits;
 mod by_id;
 mod measure;
 mod pci;
+mod scenes;
 
 use super::changes::Mutant;
-use crate::lists::Case;
+use crate::lists::{Case, CaseKind};
 use crate::outcome::{Function, Outcome};
 use crate::rules::{self, put, IMAGE_WORDS, NO_BIT};
 
@@ -19,7 +20,7 @@ const BIT: usize = 5;
 
 pub fn all() -> Vec<Mutant> {
     let mut all = Vec::new();
-    for function in Function::ALL {
+    for function in CaseKind::List.functions() {
         for verdict in function.verdicts() {
             let name = format!("{}, verdict {verdict}", function.name());
             let at = Place { function, verdict, name };
@@ -38,6 +39,7 @@ pub fn all() -> Vec<Mutant> {
     all.extend(bits::all());
     all.extend(pci::all());
     all.extend(measure::all());
+    all.extend(scenes::all());
     all.extend(image_words());
     all.extend(by_id::all());
     all.push(applied_from_the_end());
@@ -95,7 +97,7 @@ fn lent_words(at: &Place) -> Vec<Mutant> {
             outcome.buffer[written..].fill(0);
         }),
     ];
-    if at.function == Function::Reader && at.verdict != 0 {
+    if at.function.applies() && at.verdict != 0 {
         all.push(at.change("image cleared", |_, outcome| outcome.image.fill(0)));
         all.push(at.change("first word of the image changed", |_, outcome| {
             outcome.image.iter_mut().take(1).for_each(|word| *word ^= 1);
@@ -187,6 +189,8 @@ fn done_before_refusal(at: &Place) -> Vec<Mutant> {
                 outcome.answer[WORDS] = form_of(case).len() as u32;
             }));
         }
+        // In `scenes`.
+        Function::Scenes => {}
     }
     all
 }

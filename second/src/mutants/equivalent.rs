@@ -269,6 +269,10 @@ const REASONS: &[Reason] = &[
         ],
     ),
     (
+        "a pair after the 4,096th comes behind 4,096 lists that were read with this image: it has 256 words",
+        &["scenes: too many: tested: BehindImage"],
+    ),
+    (
         "no rule reads the image, and the listing doesn't show it",
         &["listing: starting word: 1, not 0"],
     ),

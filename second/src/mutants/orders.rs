@@ -152,7 +152,7 @@ fn no_room_as_met(function: Function, case: &Case, outcome: Outcome) -> Outcome 
         }
         Function::ToPci => paper.pairs_of(&commands).len() <= case.pci_len,
         Function::FromPci => end_of(&commands) <= case.pci_len,
-        Function::Measure => true,
+        Function::Measure | Function::Scenes => true,
     };
     match fits {
         true => outcome,

@@ -2,17 +2,17 @@
 
 use super::changes::Mutant;
 use crate::listings;
-use crate::lists::Case;
+use crate::lists::{Case, CaseKind};
 use crate::outcome::{self, Function};
 use crate::rules::{self, Run};
 use crate::runs::{self, RunCase};
-use crate::vectors::{self, Part};
+use crate::vectors::{self, Part, Parts};
 use std::fs;
 use std::io;
 use std::path::Path;
 
 /// A case, and what each function's outcome adds to its digest.
-type Vector = (Case, [Part; Function::ALL.len()]);
+type Vector = (Case, Parts);
 
 pub struct Stored {
     vectors: Vec<Vector>,
@@ -52,8 +52,7 @@ impl Stored {
             }
         }
         let of_case = |case: Case| {
-            let part = |function| Part::of(function, &outcome::of(function, rules::paper(), &case));
-            let parts = Function::ALL.map(part);
+            let parts = vectors::parts_of(&case);
             (case, parts)
         };
         let vectors = vectors::stored_cases().into_iter().map(of_case).collect();
@@ -73,10 +72,10 @@ impl Stored {
         }
         let differs = |(_, (case, parts)): &(usize, &Vector)| {
             let mut changed = *parts;
-            for function in Function::ALL.into_iter().filter(|f| mutant.concerns(*f)) {
+            for function in case.kind.functions().filter(|f| mutant.concerns(*f)) {
                 changed[function as usize] = Part::of(function, &mutant.run(function, case));
             }
-            vectors::digest_of_parts(changed) != vectors::digest_of_parts(*parts)
+            vectors::digest_of(changed) != vectors::digest_of(*parts)
         };
         if !mutant.is_of_listing() {
             if let Some((k, (case, _))) = self.vectors.iter().enumerate().find(differs) {
@@ -101,11 +100,11 @@ impl Stored {
 
 /// What the change gives for the case, where it isn't what document 01 gives.
 fn difference(mutant: &Mutant, case: &Case) -> String {
-    let of = |function| {
+    let of = |function: Function| {
         let expected = outcome::of(function, rules::paper(), case);
         outcome::difference(function, &mutant.run(function, case), &expected)
     };
-    Function::ALL.into_iter().find_map(of).unwrap_or_default()
+    case.kind.functions().find_map(of).unwrap_or_default()
 }
 
 /// What the tool says or writes otherwise.
@@ -125,14 +124,20 @@ pub fn other_run(mutant: &Mutant, case: &RunCase, expected: &Run) -> Option<Stri
     }
 }
 
-/// The case's class and the first words of its list.
+/// The case's class, the first words of its list, and those of a session's table.
 pub fn described(case: &Case) -> String {
-    const SHOWN: usize = 5;
-    let mut text = format!("{} [", case.class);
-    let words: Vec<String> = case.list.iter().take(SHOWN).map(|w| format!("{w:08X}")).collect();
-    text += &words.join(" ");
-    match case.list.len() {
-        0..=SHOWN => text + "]",
-        more => text + &format!(" ..{more} words]"),
+    let list = format!("{} {}", case.class, first_words(&case.list, |word| format!("{word:08X}")));
+    match case.kind {
+        CaseKind::List => list,
+        CaseKind::Session => list + " table " + &first_words(&case.arguments, u32::to_string),
+    }
+}
+
+fn first_words(words: &[u32], text: impl Fn(&u32) -> String) -> String {
+    const SHOWN: usize = 6;
+    let first: Vec<String> = words.iter().take(SHOWN).map(text).collect();
+    match words.len() {
+        0..=SHOWN => format!("[{}]", first.join(" ")),
+        more => format!("[{} ..{more} words]", first.join(" ")),
     }
 }

@@ -1,6 +1,7 @@
-//! Document 01, and Tickets 1 to 4 of document 02, as a value: each part under its sentence.
+//! Document 01, and Tickets 1 to 5 of document 02, as a value: each part under its sentence.
 
 use super::language::{Field, Mask, Quantity, Set, Test, Value};
+use super::scenes::*;
 use super::shape::*;
 use super::tool::tool;
 use crate::vary::parts;
@@ -97,6 +98,7 @@ impl Rules {
             listing: listing(),
             to_pci: to_pci(terms),
             from_pci: from_pci(terms),
+            scenes: scenes(),
             tool: tool(),
         }
     }
@@ -425,4 +427,49 @@ fn from_pci(terms: &Terms) -> FromPci {
         // "then 3 to 10 of the list recovered, then 11"
         room: room(),
     }
+}
+
+fn scenes() -> Scenes {
+    Scenes {
+        // "a table of start and length pairs"
+        pair: vec![TableWord::Start, TableWord::Length],
+        // "An odd last word of the table is ignored"
+        odd_word: SpareWord::Ignored,
+        // "read the lists in turn, each as a list of its own, over one image"
+        turns: Turns::OfTable,
+        too_long: TooLong::EachList,
+        empty_list: EmptyList::Read,
+        image: SceneImage::RunsOn,
+        // "20 for a pair after the 4,096th"
+        too_many: pair_refused(Quantity::PairNumber.over(4096)),
+        // "or outside the buffer (start plus length over its words, here and later)"
+        outside: pair_refused(Quantity::ListEnd.more_than(Quantity::BufferWords)),
+        // "a table with no pair is accepted with any image"
+        no_pair: NoPair::Accepted,
+        // "single calls, each with the record room still left, and record positions counted inside each
+        // list"
+        room: SceneRoom::StillLeft,
+        record_positions: RecordPositions::InList,
+        // "A surface base may end one list and the next need not open with BEGIN."
+        order: ListOrder::Fresh,
+        // "The first refused list stops the call; lists before it stay applied", "the refusal itself
+        // changes nothing more"
+        stops: Stops::AtFirstRefusal,
+        image_on_refusal: OnRefusal::ListsBefore,
+        records_on_refusal: OnRefusal::ListsBefore,
+        // "the position is the last call's, or 0 where 20 is given or no list was read"
+        accepted_at: AcceptedAt::LastLength,
+        refused_at: RefusedAt::InList,
+        nothing_read: NothingRead::Zero,
+        // "Counts are sums over the lists applied", "the answer says how many"
+        commands: SceneCount::Sum,
+        records: SceneCount::Sum,
+        words: SceneCount::Sum,
+        lists: ListsTold::Applied,
+    }
+}
+
+/// "checked when its turn comes and before the list", "0 where 20 is given"
+fn pair_refused(test: Test) -> PairCheck {
+    PairCheck { verdict: 20, test, tested: Tested::InTurn, position: PairAt::Zero }
 }

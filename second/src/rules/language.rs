@@ -85,7 +85,8 @@ choices! {
     /// Numbers known where a rule is tested, beside the command's own words; see `Facts`.
     pub enum Quantity {
         ListWords, ImageWords, WordsLeft, OwnWords, Length, Known, OnlyThroughPci, AfterBase,
-        IsBegin, Needed, Room, InputBytes, SpareBytes, ImageBytes
+        IsBegin, Needed, Room, InputBytes, SpareBytes, ImageBytes, PairNumber, TableWords,
+        TablePairs, ListStart, ListEnd, WrappedEnd, BufferWords
     }
 }
 
@@ -115,6 +116,22 @@ pub struct Facts<'a> {
     pub image_bytes: usize,
     /// Of the command's pairs, as far as they are there.
     pub addresses: &'a [Address],
+    /// Of a session.
+    pub pair: PairFacts,
+}
+
+/// What is known of a pair of a session's table.
+#[derive(Clone, Copy, Default)]
+pub struct PairFacts {
+    /// Counted from 1.
+    pub number: usize,
+    /// The table's words up to the pair's end, and the pairs of the whole table.
+    pub table_words: usize,
+    pub table_pairs: usize,
+    /// Where the list begins, and start plus length.
+    pub start: u64,
+    pub end: u64,
+    pub buffer_words: usize,
 }
 
 /// The address of a pair, and the one expected there.
@@ -130,7 +147,7 @@ impl Facts<'_> {
         Facts { list_words: list.len(), image_words: image.len(), ..Facts::default() }
     }
 
-    fn number(&self, quantity: Quantity) -> u32 {
+    fn number(&self, quantity: Quantity) -> u64 {
         let number = match quantity {
             Quantity::ListWords => self.list_words,
             Quantity::ImageWords => self.image_words,
@@ -146,8 +163,16 @@ impl Facts<'_> {
             Quantity::InputBytes => self.input_bytes,
             Quantity::SpareBytes => self.spare_bytes,
             Quantity::ImageBytes => self.image_bytes,
+            Quantity::PairNumber => self.pair.number,
+            Quantity::TableWords => self.pair.table_words,
+            Quantity::TablePairs => self.pair.table_pairs,
+            Quantity::ListStart => return self.pair.start,
+            Quantity::ListEnd => return self.pair.end,
+            // In 32 bits.
+            Quantity::WrappedEnd => return u64::from(self.pair.end as u32),
+            Quantity::BufferWords => self.pair.buffer_words,
         };
-        number as u32
+        number as u64
     }
 }
 
@@ -171,8 +196,8 @@ pub enum Value {
 }
 
 impl Value {
-    pub fn of(&self, facts: &Facts) -> u32 {
-        match self {
+    pub fn of(&self, facts: &Facts) -> u64 {
+        let number = match self {
             Value::Number(number) => *number,
             Value::Field(field) => field.of(facts.words),
             Value::Sum(a, b, mask) => (a.of(facts.words) + b.of(facts.words)) & mask.bits,
@@ -188,8 +213,9 @@ impl Value {
                 let mask = masks.iter().find(|(values, _)| values.contains(&key));
                 mask.map_or(0, |(_, mask)| Field::word(*word).of(facts.words) & mask.bits)
             }
-            Value::Quantity(quantity) => facts.number(*quantity),
-        }
+            Value::Quantity(quantity) => return facts.number(*quantity),
+        };
+        u64::from(number)
     }
 
     pub fn is(self, number: u32) -> Test {
@@ -240,7 +266,7 @@ pub enum Comparison {
 }
 
 impl Comparison {
-    fn holds(self, a: u32, b: u32) -> bool {
+    fn holds(self, a: u64, b: u64) -> bool {
         match self {
             Comparison::Below => a < b,
             Comparison::AtMost => a <= b,

@@ -2,12 +2,13 @@
 //! value by itself.
 
 use super::language::{Facts, Field, Mask, Set, Test};
+use super::scenes::Scenes;
 use super::tool::Tool;
 use crate::vary::{choices, parts};
 
 parts! {
-    /// The rules of reading, of the normal form and its length, of the listing, of the writes over PCI
-    /// and of the tool.
+    /// The rules of reading, of the normal form and its length, of the listing, of the writes over PCI,
+    /// of sessions and of the tool.
     pub struct Rules {
         pub id: Field,
         /// The header as the masks test it, and as the image holds it.
@@ -30,6 +31,7 @@ parts! {
         pub listing: Listing,
         pub to_pci: ToPci,
         pub from_pci: FromPci,
+        pub scenes: Scenes,
         pub tool: Tool,
     }
 }

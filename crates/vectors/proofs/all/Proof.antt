@@ -6,14 +6,14 @@ use Rattle.vectors.proofs.all.Statement.{statement}
 use Rattle.vectors.proofs.all.Tie as tie
 
 abbrev Inv-loop : tie.InvT-loop
-Inv-loop list₀ image₀ buffer₀ tally₀ i₀ list image buffer tally i = (i ≤ 65536) × ((length list ≡ length list₀) × ((length image ≡ length image₀) × (length buffer ≡ length buffer₀)))
+Inv-loop words₀ arguments₀ image₀ buffer₀ tally₀ i₀ words arguments image buffer tally i = (i ≤ 65536) × (length words ≡ length words₀) × (length arguments ≡ length arguments₀) × (length image ≡ length image₀) × (length buffer ≡ length buffer₀)
 
 abbrev μ-loop : tie.MeasureT-loop
-μ-loop list₀ image₀ buffer₀ tally₀ i₀ list image buffer tally i = 65536 - i
+μ-loop words₀ arguments₀ image₀ buffer₀ tally₀ i₀ words arguments image buffer tally i = 65536 - i
 
 pub all-spec : {M : Type 1} → statement M
 all-spec =
     tie.close
-    (tie.spec Inv-loop μ-loop (λ c. search needs) (λ c κs. search needs) (λ c. search needs) (λ c. search needs)
-    (λ c. search needs) (λ c. search needs) (λ c. search needs) (λ c. search needs) (λ c. search needs) (λ c. search needs)
+    (tie.spec Inv-loop μ-loop (λ c. search needs) (λ c κs. search needs) (λ c. search needs) (λ c. search needs) (λ c. search needs)
+    (λ c. search needs) (λ c. search needs) (λ c. search needs) (λ c. search needs) (λ c. search needs) (λ c. search needs) (λ c. search needs)
     (λ c. search needs) (λ c. search needs) (λ c. search needs))

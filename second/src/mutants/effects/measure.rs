@@ -30,8 +30,8 @@ fn other_rules() -> Vec<Mutant> {
 /// No part is changed of which only other functions know, and none of the measure's own.
 fn is_of_lists(rules: &Rules) -> bool {
     let Rules { room_for_records, room_for_form, records, form, .. } = Rules::paper();
-    let Rules { measure, listing, to_pci, from_pci, tool, .. } = Rules::paper();
-    let room = Rules { room_for_records, room_for_form, ..rules.clone() };
+    let Rules { measure, listing, to_pci, from_pci, scenes, tool, .. } = Rules::paper();
+    let room = Rules { room_for_records, room_for_form, scenes, ..rules.clone() };
     Rules { records, form, measure, listing, to_pci, from_pci, tool, ..room } == *rules
 }
 

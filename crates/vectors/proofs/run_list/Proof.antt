@@ -1,0 +1,18 @@
+use borrow.Author.Needs.{needs}
+use Prim.Native.Nat.{_-_, _≤_}
+use mathlib.Core.Path.{_≡_}
+use lib.ListN.{length}
+use Rattle.vectors.proofs.run_list.Statement.{statement}
+use Rattle.vectors.proofs.run_list.Tie as tie
+
+abbrev Inv-loop : tie.InvT-loop
+Inv-loop front words arguments image₀ buffer₀ tally₀ digest₀ k₀ image buffer tally digest k = (k ≤ 5) × ((length image ≡ length image₀) × (length buffer ≡ length buffer₀))
+
+abbrev μ-loop : tie.MeasureT-loop
+μ-loop front words arguments image₀ buffer₀ tally₀ digest₀ k₀ image buffer tally digest k = 5 - k
+
+pub run-list-spec : {M : Type 1} → statement M
+run-list-spec =
+    tie.close
+    (tie.spec Inv-loop μ-loop (λ c. search needs) (λ c. search needs) (λ c κs. search needs) (λ c κs. search needs) (λ c. search needs)
+    (λ c. search needs) (λ c. search needs) (λ c. search needs) (λ c. search needs) (λ c. search needs))
