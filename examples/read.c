@@ -1,6 +1,6 @@
 /*
  * From C: reads a list, asks how long its normal form is and writes it in just that room, writes its PCI writes and the list
- * of these, reads two bad lists, and three lists in one call.
+ * of these, reads two bad lists, and several lists in one call.
  */
 #include <inttypes.h>
 #include <stdio.h>

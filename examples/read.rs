@@ -1,5 +1,5 @@
 //! From Rust: reads a list, asks how long its normal form is and writes it in just that room, writes its PCI writes and the
-//! list of these, reads two bad lists, and three lists in one call.
+//! list of these, reads two bad lists, and several lists in one call.
 
 extern "C" {
     fn xp10_read(

@@ -229,21 +229,21 @@ fn time_lists(rounds: usize, name: &str, lists: &[Vec<u32>]) {
 
 fn main() {
     let rounds = std::env::args().nth(1).and_then(|n| n.parse().ok()).unwrap_or(400);
+    let short = lists::short_lists();
     let groups = [
         ("scenes, regular", lists::regular_scenes()),
         ("scenes, partial", lists::partial_scenes()),
         ("scenes, mixed", lists::mixed_scenes()),
         ("scenes, large loads", lists::loaded_scenes()),
-        ("short lists", lists::short_lists()),
+        ("short lists", short.clone()),
     ];
     let compared = compare_commands() + groups.iter().map(|(_, lists)| compare_all(lists)).sum::<usize>();
-    let short = &groups[4].1;
-    let sessions = scenes::compare(short);
+    let sessions = scenes::compare(&short);
     println!("outputs equal on {compared} lists and {sessions} sessions; best of {rounds} rounds, buffers not cleared between calls");
     print!("{:<32} {:>9} {:>9}  {:<12} {:>6}", "", "proved", "Rust", "", "ratio");
     println!("{}", if cfg!(before) { "    before  ratio" } else { "" });
     for (name, lists) in &groups {
         time_lists(rounds, name, lists);
     }
-    scenes::time_dozens(rounds, short);
+    scenes::time_dozens(rounds, &short);
 }

@@ -42,8 +42,8 @@ enum {
 };
 
 /*
- * The numbers of an answer. Those that `answer` has no room for are left out: five words leave out the bit. After a refusal
- * XP10_COMMANDS, XP10_RECORDS and XP10_WORDS are 0, but for xp10_read_scenes.
+ * The numbers of an answer. Those that `answer` has no room for are left out: five words get none behind XP10_WORDS. After
+ * a refusal XP10_COMMANDS, XP10_RECORDS and XP10_WORDS are 0, but for xp10_read_scenes.
  */
 enum {
     XP10_VERDICT,
@@ -68,8 +68,8 @@ uint32_t xp10_read(const uint32_t *list, size_t list_words,
 /*
  * Reads several lists of one word buffer in turn, over one image: `table` has a start and a length, in words, for each; an
  * odd last word is ignored. Each list is read as by xp10_read, from the image that the lists before left and with the record
- * room that they left; the positions of its records count inside it. The first refused list ends the call: the refusal, its
- * position, in that list, and its bit are told and change nothing more, and the lists before it stay applied.
+ * room that they left; the positions of its records count inside it. The first refused list ends the call: its refusal, with
+ * the position inside that list and the bit, is told and changes nothing more, and the lists before it stay applied.
  * XP10_COMMANDS, XP10_RECORDS and XP10_WORDS are sums over the lists applied, also after a refusal, and XP10_LISTS is how many
  * these are. XP10_PAIR_OUTSIDE is asked when a pair's turn comes, before its list is looked at. On acceptance XP10_POSITION is
  * the last list's length; with no pair it is 0, and the image may have any size.

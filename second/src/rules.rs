@@ -206,8 +206,18 @@ impl Rules {
 
     /// The commands of a list, by verdicts 1 to 10.
     fn checked<'a>(&'a self, list: &'a [u32], image: &[u32]) -> Result<Vec<Command<'a>>, Refusal> {
+        self.checked_from(list, false, image)
+    }
+
+    /// The same, where a surface base may stand before the list.
+    fn checked_from<'a>(
+        &'a self,
+        list: &'a [u32],
+        after_base: bool,
+        image: &[u32],
+    ) -> Result<Vec<Command<'a>>, Refusal> {
         self.pass(&self.before_commands, &OTHER_ID, 0, &Facts::of(list, image))?;
-        self.commands(list)
+        self.commands_from(list, after_base)
     }
 
     fn accepted(&self, list: &[u32], commands: &[Command], words: usize) -> Answer {
@@ -256,8 +266,7 @@ impl Rules {
         image: &mut [u32],
         records: &mut [u32],
     ) -> Result<Answer, Refusal> {
-        self.pass(&self.before_commands, &OTHER_ID, 0, &Facts::of(list, image))?;
-        let commands = self.commands_from(list, after_base)?;
+        let commands = self.checked_from(list, after_base, image)?;
         let found = self.records(&commands);
         let (needed, room) = (found.len(), self.record_room(records.len()));
         let facts = Facts { needed, room, ..Facts::of(list, image) };

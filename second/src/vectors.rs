@@ -124,7 +124,7 @@ mod tests {
         [answer[0], answer[1]]
     }
 
-    /// The crate `vectors` reads little more.
+    /// Of a size to be kept in the repository.
     #[test]
     fn file_is_small() {
         assert!(crate_files().0.len() <= 1_500_000);

@@ -1,17 +1,17 @@
 // An answer as words for a caller.
 use rules::Answer;
-use rules::Session;
+use rules::SessionAnswer;
 use words::put;
 ghost use mathlib.Core.Path.{_≡_};
 ghost use Prim.Native.Nat.{_^_, _<_};
 ghost use lib.Seq.{sets};
 ghost use Rattle.rules.specs.Answer.{answerWords};
 ghost use Rattle.rules.specs.Session.{sessionWords};
-ghost use Rattle.answer.specs.Small.{Small};
+ghost use Rattle.answer.specs.FitsWords.{FitsWords};
 
 // The six numbers of an answer, as many as there is room for.
 pub fn write(a: Answer, answer: &mut [u32])
-    requires { ⌜ Small a ⌝ }
+    requires { ⌜ FitsWords a ⌝ }
     ensures { λ _. ⌜ now (answer .exit) ≡ sets (now (answer .entry)) 0 (answerWords a) ⌝ }
 {
     put(answer, 0, a.verdict);
@@ -23,8 +23,8 @@ pub fn write(a: Answer, answer: &mut [u32])
 }
 
 // The seven of a session: the lists applied are the last.
-pub fn write_session(s: Session, answer: &mut [u32])
-    requires { ⌜ Small (s .answer) × (s .lists < 2 ^ 32) ⌝ }
+pub fn write_session(s: SessionAnswer, answer: &mut [u32])
+    requires { ⌜ FitsWords (s .answer) × (s .lists < 2 ^ 32) ⌝ }
     ensures { λ _. ⌜ now (answer .exit) ≡ sets (now (answer .entry)) 0 (sessionWords s) ⌝ }
 {
     write(s.answer, answer);

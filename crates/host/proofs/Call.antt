@@ -1,4 +1,4 @@
--- Every number of an answer is small, and what a call gives back.
+-- Every number of an answer fits a word, and what a call gives back.
 use Prim.Native.Nat.{ℕ, _*_, _^_, _≤_, _<_}
 use native.Mathlib.Omega.{arith}
 use mathlib.Core.Path.{_≡_, refl, ap, sym, _∙_, subst}
@@ -25,60 +25,60 @@ use Rattle.theory.proofs.Pci.{pairs-length, pairs-carry, pairs-refuses}
 use Rattle.theory.proofs.Counts.{reading-counts}
 use Rattle.theory.proofs.Session.{scenes-sound}
 use Rattle.theory.proofs.Demands.{told-is-enough, told-never-longer}
-use Rattle.answer.specs.Small.{Small}
+use Rattle.answer.specs.FitsWords.{FitsWords}
 use Rattle.host.specs.Call.{callResult, answerResult, sessionResult}
 
-small-refused : (f : Refusal) → f .word ≤ 16384 → Small (refusedAnswer f)
-small-refused f h = record { position = omega arith; commands = omega arith; records = omega arith; words = omega arith }
+refused-fits : (f : Refusal) → f .word ≤ 16384 → FitsWords (refusedAnswer f)
+refused-fits f h = record { position = omega arith; commands = omega arith; records = omega arith; words = omega arith }
 
 -- accepted, or refused for want of room
-small-fitting : (ws image buffer : List ℕ) (short : Bool) (cs : List Command) (out left : List ℕ) → ws ≡ wordsAll cs → length ws ≤ 4096 → length out ≤ 16384
-    → Small (fitting short ws image buffer (accept ws cs out left buffer) .answer)
-small-fitting ws image buffer true cs out left e few h = small-refused (refusal 11 (length ws)) (omega arith)
-small-fitting ws image buffer false cs out left e few h =
+fitting-fits : (ws image buffer : List ℕ) (short : Bool) (cs : List Command) (out left : List ℕ) → ws ≡ wordsAll cs → length ws ≤ 4096 → length out ≤ 16384
+    → FitsWords (fitting short ws image buffer (accept ws cs out left buffer) .answer)
+fitting-fits ws image buffer true cs out left e few h = refused-fits (refusal 11 (length ws)) (omega arith)
+fitting-fits ws image buffer false cs out left e few h =
     let n = records-few 0 cs in
     record { position = omega arith; commands = omega (arith, ap length e, n); records = omega (arith, ap length e, n); words = omega arith }
 
 module _ (ws image buffer : List ℕ) where
-  pub read-small : {o : Outcome} → o ≡ reading ws image buffer → Small (o .answer)
-  read-small e =
+  pub read-fits : {o : Outcome} → o ≡ reading ws image buffer → FitsWords (o .answer)
+  read-fits e =
       let c = reading-counts ws image buffer in
       rw e (record { position = omega (arith, c .position); commands = omega (arith, c .commands); records = omega (arith, c .records); words = omega (arith, c .records, c .words) })
 
   -- a call that writes words made of the commands of a list
-  small-write : (made : List Command → List ℕ) (x : Parsed) → RefusesList 4098 x
+  write-fits : (made : List Command → List ℕ) (x : Parsed) → RefusesList 4098 x
       → ((cs : List Command) → x ≡ accepted cs → (parse image ws ≡ accepted cs) × (length (made cs) ≤ 2 * length ws))
-      → Small (writeParsed made ws image buffer x .answer)
-  small-write made (refused f) r h = small-refused f (omega (arith, r .near))
-  small-write made (accepted cs) r h =
+      → FitsWords (writeParsed made ws image buffer x .answer)
+  write-fits made (refused f) r h = refused-fits f (omega (arith, r .near))
+  write-fits made (accepted cs) r h =
       let a = parse-accepted image ws cs (h cs refl .0) in
-      small-fitting ws image buffer (ltb (length buffer) (length (made cs))) cs (made cs) image (a .parses .words-are) (a .few)
+      fitting-fits ws image buffer (ltb (length buffer) (length (made cs))) cs (made cs) image (a .parses .words-are) (a .few)
       (omega (arith, a .few, h cs refl .1))
 
-  pub normalise-small : {o : Outcome} → o ≡ normalising ws image buffer → Small (o .answer)
+  pub normalise-fits : {o : Outcome} → o ≡ normalising ws image buffer → FitsWords (o .answer)
   unfolding normalising
-  normalise-small e =
-      rw e (small-write (λ cs. wordsAll (form image cs)) (parse image ws) (parse-refuses image ws) (λ cs p. (p, omega (arith, form-fits image ws cs p))))
+  normalise-fits e =
+      rw e (write-fits (λ cs. wordsAll (form image cs)) (parse image ws) (parse-refuses image ws) (λ cs p. (p, omega (arith, form-fits image ws cs p))))
 
-  pub to-pci-small : {o : Outcome} → o ≡ toPci ws image buffer → Small (o .answer)
+  pub to-pci-fits : {o : Outcome} → o ≡ toPci ws image buffer → FitsWords (o .answer)
   unfolding toPci
-  to-pci-small e =
-      rw e (small-write pairsAll (parse image ws) (parse-refuses image ws)
+  to-pci-fits e =
+      rw e (write-fits pairsAll (parse image ws) (parse-refuses image ws)
       (λ cs p. (p, omega (arith, pairs-length cs, ap length (parse-accepted image ws cs p .parses .words-are)))))
 
 -- as the normaliser answers where the buffer has the list's length
-pub measure-small : (ws image : List ℕ) {a : Answer} → a ≡ measuring ws image → Small a
-measure-small ws image e = subst Small (told-is-enough ws image ws (told-never-longer ws image) ∙ sym e) (normalise-small ws image ws refl)
+pub measure-fits : (ws image : List ℕ) {a : Answer} → a ≡ measuring ws image → FitsWords a
+measure-fits ws image e = subst FitsWords (told-is-enough ws image ws (told-never-longer ws image) ∙ sym e) (normalise-fits ws image ws refl)
 
-pub from-pci-small : (ps image buffer : List ℕ) {o : Outcome} → o ≡ fromPci ps image buffer → Small (o .answer)
+pub from-pci-fits : (ps image buffer : List ℕ) {o : Outcome} → o ≡ fromPci ps image buffer → FitsWords (o .answer)
 unfolding fromPci
-from-pci-small ps image buffer e =
-    rw e (small-write (values ps) image buffer (λ cs. values ps) (parsePairs image ps) (pairs-refuses image ps)
+from-pci-fits ps image buffer e =
+    rw e (write-fits (values ps) image buffer (λ cs. values ps) (parsePairs image ps) (pairs-refuses image ps)
     (λ cs p. (pairs-carry image ps cs p .parsed, omega arith)))
 
-pub session-small : (ws table image buffer : List ℕ) {o : SessionOutcome} → o ≡ readingScenes ws table image buffer
-    → Small (o .session .answer) × (o .session .lists < 2 ^ 32)
-session-small ws table image buffer e =
+pub session-fits : (ws table image buffer : List ℕ) {o : SessionOutcome} → o ≡ readingScenes ws table image buffer
+    → FitsWords (o .session .answer) × (o .session .lists < 2 ^ 32)
+session-fits ws table image buffer e =
     let s = scenes-sound ws table image buffer in
     let b = s .bounded in
     rw e (

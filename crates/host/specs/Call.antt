@@ -18,7 +18,7 @@ abbrev pub callResult : Outcome → List ℕ → CallResult
 callResult o answer =
     record { verdict = o .answer .verdict; image = o .image; buffer = o .buffer; answer = sets answer 0 (answerWords (o .answer)) }
 
--- the same of a session, with its seven
+-- the same of a session, with its seven numbers
 abbrev pub sessionResult : SessionOutcome → List ℕ → CallResult
 sessionResult o answer =
     record { verdict = o .session .answer .verdict; image = o .image; buffer = o .buffer; answer = sets answer 0 (sessionWords (o .session)) }

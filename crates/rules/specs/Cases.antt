@@ -104,15 +104,17 @@ nullPrimitives (suc n) = 0x48000000 ∷ 0 ∷ 0 ∷ 0 ∷ nullPrimitives n
 abbrev scenes : List ℕ
 scenes = 0x02000010 ∷ 0x00000001 ∷ 0x21000000 ∷ 0x00000002 ∷ 0x02000020 ∷ 0x03000000 ∷ 0x01000002 ∷ []
 
--- the records of its first list and of its fourth word as of a list of its own
-abbrev flushed : List ℕ
-flushed = 0x00 ∷ 1 ∷ 1 ∷ 0x000001 ∷ []
+-- the record of its first two words
+abbrev flushRecord : List ℕ
+flushRecord = 0x00 ∷ 1 ∷ 1 ∷ 0x000001 ∷ []
 
-abbrev flipped : List ℕ
-flipped = flushed ++ (0x21 ∷ 2 ∷ 1 ∷ 0x000000 ∷ [])
+-- those of its first three
+abbrev flipRecords : List ℕ
+flipRecords = flushRecord ++ (0x21 ∷ 2 ∷ 1 ∷ 0x000000 ∷ [])
 
-abbrev alone : List ℕ
-alone = 0x00 ∷ 0 ∷ 1 ∷ 0x000002 ∷ []
+-- that of its fourth, as the first of a list
+abbrev nextRecord : List ℕ
+nextRecord = 0x00 ∷ 0 ∷ 1 ∷ 0x000002 ∷ []
 
 unfoldable pub cases : List Case
 cases =
@@ -166,13 +168,13 @@ cases =
     ∷ fromZeros (0x2800 ∷ 0 ∷ 0x2804 ∷ 0x01000003 ∷ []) (pairsRefusedAs (told 6 1 0))
     ∷ fromZeros (0x2A20 ∷ 0x88004000 ∷ 0x2A24 ∷ 0 ∷ 0x2A28 ∷ 0 ∷ 0x2A2C ∷ 0 ∷ []) (pairsRefusedAt 17 0)
     -- a list behind a surface base need not open with BEGIN; positions inside each list, sums, and the last list's length
-    ∷ fromZeros scenes (sessionIs (0 ∷ 3 ∷ 3 ∷ 2 ∷ []) (0 ∷ 2 ∷ 5 ∷ 3 ∷ 12 ∷ 32 ∷ 2 ∷ []) (flipped ++ alone) 0x20)
+    ∷ fromZeros scenes (sessionIs (0 ∷ 3 ∷ 3 ∷ 2 ∷ []) (0 ∷ 2 ∷ 5 ∷ 3 ∷ 12 ∷ 32 ∷ 2 ∷ []) (flipRecords ++ nextRecord) 0x20)
     -- a refusal, of a command, of its bit, and for want of room: the lists before stay applied and counted
-    ∷ fromZeros scenes (sessionIs (0 ∷ 2 ∷ 4 ∷ 2 ∷ 3 ∷ 1 ∷ []) (4 ∷ 1 ∷ 2 ∷ 1 ∷ 4 ∷ 32 ∷ 1 ∷ []) flushed 0x10)
-    ∷ fromZeros scenes (sessionIs (0 ∷ 2 ∷ 6 ∷ 1 ∷ []) (6 ∷ 0 ∷ 2 ∷ 1 ∷ 4 ∷ 1 ∷ 1 ∷ []) flushed 0x10)
-    ∷ fromZeros scenes (sessionIs (0 ∷ 3 ∷ 3 ∷ 1 ∷ 1 ∷ 2 ∷ []) (11 ∷ 2 ∷ 4 ∷ 3 ∷ 12 ∷ 32 ∷ 2 ∷ []) (flipped ++ alone) 0x10)
+    ∷ fromZeros scenes (sessionIs (0 ∷ 2 ∷ 4 ∷ 2 ∷ 3 ∷ 1 ∷ []) (4 ∷ 1 ∷ 2 ∷ 1 ∷ 4 ∷ 32 ∷ 1 ∷ []) flushRecord 0x10)
+    ∷ fromZeros scenes (sessionIs (0 ∷ 2 ∷ 6 ∷ 1 ∷ []) (6 ∷ 0 ∷ 2 ∷ 1 ∷ 4 ∷ 1 ∷ 1 ∷ []) flushRecord 0x10)
+    ∷ fromZeros scenes (sessionIs (0 ∷ 3 ∷ 3 ∷ 1 ∷ 1 ∷ 2 ∷ []) (11 ∷ 2 ∷ 4 ∷ 3 ∷ 12 ∷ 32 ∷ 2 ∷ []) (flipRecords ++ nextRecord) 0x10)
     -- 20 when its turn comes, and ahead of the image's size; no list at the buffer's end; an odd last word
-    ∷ fromZeros scenes (sessionIs (0 ∷ 2 ∷ 6 ∷ 2 ∷ []) (20 ∷ 0 ∷ 2 ∷ 1 ∷ 4 ∷ 32 ∷ 1 ∷ []) flushed 0x10)
+    ∷ fromZeros scenes (sessionIs (0 ∷ 2 ∷ 6 ∷ 2 ∷ []) (20 ∷ 0 ∷ 2 ∷ 1 ∷ 4 ∷ 32 ∷ 1 ∷ []) flushRecord 0x10)
     ∷ fromZeros scenes (sessionIs (0xFFFFFFFF ∷ 1 ∷ []) (20 ∷ 0 ∷ 0 ∷ 0 ∷ 0 ∷ 32 ∷ 0 ∷ []) [] 0)
     ∷ fromZeros scenes (sessionIs (7 ∷ 0 ∷ 5 ∷ []) (0 ∷ 0 ∷ 0 ∷ 0 ∷ 0 ∷ 32 ∷ 1 ∷ []) [] 0)
     ∷ record { list = scenes; start = []; want = sessionIs (8 ∷ 0 ∷ []) (20 ∷ 0 ∷ 0 ∷ 0 ∷ 0 ∷ 32 ∷ 0 ∷ []) [] 0 }

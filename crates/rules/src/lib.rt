@@ -24,7 +24,7 @@ pub struct Answer {
 }
 
 // The answer of a call on several lists, and how many of them are applied.
-pub struct Session {
+pub struct SessionAnswer {
     pub answer: Answer,
     pub lists: usize,
 }

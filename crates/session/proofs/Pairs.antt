@@ -2,7 +2,7 @@
 use Prim.Native.Nat.{ℕ, _+_, _-_, _≤_}
 use native.Mathlib.Omega.{arith}
 use mathlib.Core.Path.{_≡_, ap, sym, _∙_, subst}
-use mathlib.Core.Bool.{Bool, true, false, cond, _||_}
+use mathlib.Core.Bool.{Bool, true, false, cond}
 use mathlib.Core.List.{List, [], _++_, append-nil}
 use lib.Dec.{leb, ltb}
 use borrow.Author.Tests.{ltb-false}
@@ -11,10 +11,10 @@ use borrow.Rule.Slice.PartMut.{putMid}
 use lib.ListN.{length, take, drop}
 use lib.Seq.{drop-drop, drop-length}
 use Rattle.rules.specs.declared.Answer.{Answer}
-use Rattle.rules.specs.declared.Session.{Session}
+use Rattle.rules.specs.declared.SessionAnswer.{SessionAnswer}
 use Rattle.rules.specs.Values.{refusal}
 use Rattle.rules.specs.Answer.{Outcome, refusedAnswer, reading}
-use Rattle.rules.specs.Session.{added, joined, part, pairCall, withPair}
+use Rattle.rules.specs.Session.{added, joined, part, outside, pairCall, withPair}
 use Rattle.theory.proofs.Bools.{neither}
 use Rattle.theory.proofs.Counts.{Counts}
 use Rattle.theory.proofs.Session.{call-counts}
@@ -24,20 +24,20 @@ pub one-at-most : (b : Bool) → cond b 1 0 ≤ 1
 one-at-most true = omega arith
 one-at-most false = omega arith
 
--- the two tests for 20, where neither holds
-pub inside : (lists end : ℕ) (ws : List ℕ) → (leb 4096 lists || ltb (length ws) end) ≡ false → end ≤ length ws
-inside lists end ws e = ltb-false (length ws) end (neither (leb 4096 lists) (ltb (length ws) end) e .1)
+-- a pair that is not outside ends inside the buffer
+pub inside : (ws : List ℕ) (start n lists : ℕ) → outside ws start n lists ≡ false → start + n ≤ length ws
+inside ws start n lists e = ltb-false (length ws) (start + n) (neither (leb 4096 lists) (ltb (length ws) (start + n)) e .1)
 
 -- ---- the call for a pair, by the numbers that were read from the table
 
 module _ (ws image buffer : List ℕ) (lists start n first count : ℕ) (first-is : first ≡ start) (count-is : count ≡ n) where
-  pub call-outside : (a : Answer) → a ≡ refusedAnswer (refusal 20 0) → (leb 4096 lists || ltb (length ws) (first + count)) ≡ true
+  pub call-outside : (a : Answer) → a ≡ refusedAnswer (refusal 20 0) → outside ws first count lists ≡ true
       → record { answer = a; image = image; buffer = buffer } ≡ pairCall ws start n lists image buffer
   unfolding pairCall
   call-outside a e t = rw (e, ← first-is, ← count-is, t)
 
   pub call-inside : (o : Outcome) → o ≡ reading (part ws first (first + count - first)) image buffer
-      → (leb 4096 lists || ltb (length ws) (first + count)) ≡ false → o ≡ pairCall ws start n lists image buffer
+      → outside ws first count lists ≡ false → o ≡ pairCall ws start n lists image buffer
   unfolding pairCall
   call-inside o e t =
       let k : first + count - first ≡ count = omega arith in
@@ -45,7 +45,7 @@ module _ (ws image buffer : List ℕ) (lists start n first count : ℕ) (first-i
 
 -- ---- the session with it
 
-module _ (ws image xs : List ℕ) (s : Session) (start n : ℕ) (o : Outcome)
+module _ (ws image xs : List ℕ) (s : SessionAnswer) (start n : ℕ) (o : Outcome)
     (is : o ≡ pairCall ws start n (s .lists) image (take (length xs - s .answer .words) (drop (s .answer .words) xs))) where
   pub few : (o .answer .commands ≤ 4096) × (o .answer .records ≤ 4096) × (o .answer .words ≤ 16384)
   few =
@@ -53,7 +53,7 @@ module _ (ws image xs : List ℕ) (s : Session) (start n : ℕ) (o : Outcome)
       (c .commands, c .records, omega (arith, c .records, c .words))
 
   -- behind the rest of the buffer there is nothing
-  pub next-is : s .answer .words ≤ length xs → (r : Session) → r ≡ added s (o .answer)
+  pub next-is : s .answer .words ≤ length xs → (r : SessionAnswer) → r ≡ added s (o .answer)
       → record { session = r; image = o .image; buffer = putMid (s .answer .words) (length xs - s .answer .words) xs (o .buffer) }
       ≡ withPair ws start n (record { session = s; image = image; buffer = xs })
   next-is h r e =

@@ -4,18 +4,17 @@
 use rules::Answer;
 use rules::NO_BIT;
 use rules::Refusal;
-use rules::Session;
+use rules::SessionAnswer;
 ghost use mathlib.Core.Path.{_≡_};
 ghost use mathlib.Core.Bool.{cond};
-ghost use mathlib.Core.List.{[]};
 ghost use Prim.Native.Nat.{_+_, _*_, _/_, _≤_, _<_};
 ghost use lib.ListN.{length, getD};
-ghost use Rattle.rules.specs.Session.{opened, added, pairCall, withPair, readingScenes, Bounded};
+ghost use Rattle.rules.specs.Session.{noLists, added, pairCall, withPair, readingScenes, Bounded};
 
-fn no_lists() -> Session
-    ensures { λ r. ⌜ r ≡ opened [] [] .session ⌝ }
+fn no_lists() -> SessionAnswer
+    ensures { λ r. ⌜ r ≡ noLists ⌝ }
 {
-    Session {
+    SessionAnswer {
         answer: list::accepted(0, 0, 0, 0),
         lists: 0,
     }
@@ -29,11 +28,11 @@ fn list_count(accepted: bool) -> usize
 }
 
 // One answer more: of a refusal the counts are 0.
-fn add(s: Session, a: Answer) -> Session
+fn add(s: SessionAnswer, a: Answer) -> SessionAnswer
     requires { ⌜ Bounded s × (a .commands ≤ 4096) × (a .records ≤ 4096) × (a .words ≤ 16384) ⌝ }
     ensures { λ r. ⌜ r ≡ added s a ⌝ }
 {
-    Session {
+    SessionAnswer {
         answer: Answer {
             verdict: a.verdict,
             bit: a.bit,
@@ -75,8 +74,8 @@ fn read_next(
     table: &[u32],
     image: &mut [u32],
     records: &mut [u32],
-    s: Session,
-) -> Session
+    s: SessionAnswer,
+) -> SessionAnswer
     requires { ⌜ Bounded s × (s .answer .words ≤ length (now records)) × (s .lists < length (now table) / 2) ⌝ }
     ensures { λ r. ⌜ record { session = r; image = now (image .exit); buffer = now (records .exit) } ≡ withPair (now (words .entry)) (getD (now (table .entry)) (2 * s .lists) 0) (getD (now (table .entry)) (2 * s .lists + 1) 0) (record { session = s; image = now (image .entry); buffer = now (records .entry) }) ⌝ }
 {
@@ -89,7 +88,12 @@ fn read_next(
 }
 
 // The lists of a table's pairs of start and length in turn, until one is refused.
-pub fn read_scenes(words: &[u32], table: &[u32], image: &mut [u32], records: &mut [u32]) -> Session
+pub fn read_scenes(
+    words: &[u32],
+    table: &[u32],
+    image: &mut [u32],
+    records: &mut [u32],
+) -> SessionAnswer
     ensures { λ r. ⌜ record { session = r; image = now (image .exit); buffer = now (records .exit) } ≡ readingScenes (now (words .entry)) (now (table .entry)) (now (image .entry)) (now (records .entry)) ⌝ }
 {
     let mut s = no_lists();

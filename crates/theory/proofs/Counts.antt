@@ -1,11 +1,11 @@
--- What a call of the reader counts and leaves of its record buffer; and it never gives 20.
+-- What a call of the reader counts, and leaves of its record buffer.
 use Prim.Native.Nat.{ℕ, _*_, _≤_}
 use native.Mathlib.Omega.{arith}
 use mathlib.Core.Path.{_≡_, refl, ap}
 use mathlib.Core.Bool.{Bool, true, false}
 use mathlib.Core.List.{List}
 use lib.Dec.{ltb}
-use borrow.Author.Tests.{eqb-false, ltb-false}
+use borrow.Author.Tests.{ltb-false}
 use lib.ListN.{length, drop, length-append, length-drop}
 use lib.Seq.{drop-at}
 use Rattle.rules.specs.declared.Refusal.{Refusal}
@@ -15,7 +15,7 @@ use Rattle.rules.specs.Image.{final}
 use Rattle.rules.specs.Records.{records, recordWords}
 use Rattle.rules.specs.Values.{refusal}
 use Rattle.rules.specs.Answer.{Outcome, refuse, accept, fitting, room, readParsed, reading}
-use Rattle.theory.proofs.Numbers.{not-twenty, RefusesList, parse-refuses}
+use Rattle.theory.proofs.Numbers.{RefusesList, parse-refuses}
 use Rattle.theory.proofs.Parse.{parse-accepted}
 use Rattle.theory.proofs.Records.{records-few}
 use Rattle.theory.proofs.Verdict.{length-recordWords}
@@ -61,16 +61,3 @@ module _ (ws image buffer : List ℕ) where
   pub reading-counts : Counts (reading ws image buffer) buffer
   unfolding reading
   reading-counts = counts-parsed (parse image ws) refl (parse-refuses image ws)
-
-  -- the reader never gives 20
-  twenty-fitting : (small : Bool) (o : Outcome) → o .answer .verdict ≡ 0 → fitting small ws image buffer o .answer .verdict ≡ 20 → ⊥
-  twenty-fitting true o z e = let f : _≡_ {A = ℕ} 11 20 = e in omega arith
-  twenty-fitting false o z e = omega (arith, z, e)
-
-  twenty-parsed : (x : Parsed) → RefusesList 4098 x → readParsed ws image buffer x .answer .verdict ≡ 20 → ⊥
-  twenty-parsed (refused f) r e = eqb-false (f .number) 20 (not-twenty r) e
-  twenty-parsed (accepted cs) r e = twenty-fitting (ltb (room buffer) (length (records 0 cs))) (accept ws cs (recordWords (records 0 cs)) (final image cs) buffer) refl e
-
-  pub reading-not-twenty : reading ws image buffer .answer .verdict ≡ 20 → ⊥
-  unfolding reading
-  reading-not-twenty = twenty-parsed (parse image ws) (parse-refuses image ws)

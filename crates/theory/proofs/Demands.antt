@@ -4,10 +4,9 @@
 use Prim.Native.Nat.{ℕ, _+_, _*_, _/_, _≤_, _<_}
 use native.Mathlib.Omega.{arith}
 use mathlib.Core.Path.{_≡_, ap, sym, _∙_, subst}
-use mathlib.Core.Bool.{true, _||_}
+use mathlib.Core.Bool.{true}
 use mathlib.Core.Logic.{_↔_}
 use mathlib.Core.List.{List, [], _∷_, _++_}
-use lib.Dec.{leb, ltb}
 use lib.ListN.{length, getD, drop, length-append}
 use Rattle.rules.specs.Word.{bits}
 use Rattle.rules.specs.Command.{Command, wordsAll}
@@ -24,9 +23,9 @@ use Rattle.theory.proofs.Parse.{parse-accepted, accepted-parse}
 use Rattle.theory.proofs.Records.{records-few}
 use Rattle.theory.proofs.Verdict.{written-accept, reads, reading-zero, normalises, normalising-zero}
 use Rattle.theory.proofs.Pci.{values-all, whole-all, whole-values, pairs-length, carries-pairs, pairs-carry, to-pci, to-pci-zero, from-pci, from-pci-zero}
-use Rattle.rules.specs.Session.{SessionOutcome, opened, left, part, readFrom, readingScenes, Bounded}
+use Rattle.rules.specs.Session.{SessionOutcome, opened, left, part, outside, readFrom, readingScenes, Bounded, asSession, SameApplied, firstPairs, nextPair, StopsAt}
 use Rattle.theory.proofs.Outcomes as laws
-use Rattle.theory.proofs.Session.{alone, SameApplied, StopsAt, first, nextPair, call-twenty, call-at-zero, call-reads, pair-refused, from-cut, scenes-sound, whole-stops, whole-accepted, stops-at, first-lists, one-pair, from-end}
+use Rattle.theory.proofs.Session.{call-twenty, call-at-zero, call-reads, pair-refused, from-end, from-cut, scenes-sound, whole-stops, whole-accepted, stops-at, first-lists, one-pair}
 
 -- ---- Demand 1: "a refusal changes neither the image nor any buffer", and its counts are 0
 
@@ -389,11 +388,11 @@ module _ (ws table image buffer : List ℕ) where
 
   -- "Demand 1 then means that the refusal itself changes nothing more": the image, the buffer and the counts are those of the
   -- session over the pairs before
-  pub session-refused : (session .session .answer .verdict ≡ 0 → ⊥) → SameApplied session (first ws table image buffer (session .session .lists))
+  pub session-refused : (session .session .answer .verdict ≡ 0 → ⊥) → SameApplied session (firstPairs ws table image buffer (session .session .lists))
   session-refused z =
       let t = session-stops z in
-      subst (λ (o : SessionOutcome). SameApplied o (first ws table image buffer (session .session .lists))) (sym (t .is))
-      (pair-refused ws _ _ (first ws table image buffer (session .session .lists)) (λ e. z (ap (λ (o : SessionOutcome). o .session .answer .verdict) (t .is) ∙ e)))
+      subst (λ (o : SessionOutcome). SameApplied o (firstPairs ws table image buffer (session .session .lists))) (sym (t .is))
+      (pair-refused ws _ _ (firstPairs ws table image buffer (session .session .lists)) (λ e. z (ap (λ (o : SessionOutcome). o .session .answer .verdict) (t .is) ∙ e)))
 
   -- accepted, it has applied the list of each pair
   pub session-accepted : session .session .answer .verdict ≡ 0 → session .session .lists ≡ length table / 2
@@ -403,8 +402,8 @@ module _ (ws table image buffer : List ℕ) where
   pub record PairOutside : Type 0 where
     pub pair : ℕ
     pub there : pair < length table / 2
-    pub applied-before : first ws table image buffer pair .session .answer .verdict ≡ 0
-    pub outside : (leb 4096 pair || ltb (length ws) (getD table (2 * pair) 0 + getD table (2 * pair + 1) 0)) ≡ true
+    pub applied-before : firstPairs ws table image buffer pair .session .answer .verdict ≡ 0
+    pub is-outside : outside ws (getD table (2 * pair) 0) (getD table (2 * pair + 1) 0) pair ≡ true
 
   pub twenty-exactly : (session .session .answer .verdict ≡ 20) ↔ PairOutside
   twenty-exactly = (
@@ -414,11 +413,11 @@ module _ (ws table image buffer : List ℕ) where
           pair = k;
           there = t .there;
           applied-before = t .accepted-before;
-          outside = rw (first-lists ws table image buffer k (omega (arith, t .there)) (t .accepted-before)) at
+          is-outside = rw (first-lists ws table image buffer k (omega (arith, t .there)) (t .accepted-before)) at
               (call-twenty ws _ _ _ _ _ .0 (ap (λ (o : SessionOutcome). o .session .answer .verdict) (sym (t .is)) ∙ e));
         },
     λ p. let lists-are = first-lists ws table image buffer (p .pair) (omega (arith, p .there)) (p .applied-before) in
-        let given : nextPair ws table image buffer (p .pair) .session .answer .verdict ≡ 20 = call-twenty ws _ _ _ _ _ .1 (rw lists-are (p .outside)) in
+        let given : nextPair ws table image buffer (p .pair) .session .answer .verdict ≡ 20 = call-twenty ws _ _ _ _ _ .1 (rw lists-are (p .is-outside)) in
         let t = stops-at ws table image buffer (p .pair) (p .there) (p .applied-before) (λ z. omega (arith, z, given)) in
         ap (λ (o : SessionOutcome). o .session .answer .verdict) (t .is) ∙ given,
   )
@@ -437,8 +436,8 @@ module _ (ws table image buffer : List ℕ) where
   -- every other refusal is the reader's, of the list that it stops at, "with the record room still left"
   pub refused-by-the-reader : (session .session .answer .verdict ≡ 0 → ⊥) → (session .session .answer .verdict ≡ 20 → ⊥)
       → refusalOf (session .session .answer)
-      ≡ refusalOf (reading (listOf (session .session .lists)) (first ws table image buffer (session .session .lists) .image)
-      (left (first ws table image buffer (session .session .lists))) .answer)
+      ≡ refusalOf (reading (listOf (session .session .lists)) (firstPairs ws table image buffer (session .session .lists) .image)
+      (left (firstPairs ws table image buffer (session .session .lists))) .answer)
   refused-by-the-reader z n =
       let t = session-stops z in
       ap (λ (o : SessionOutcome). refusalOf (o .session .answer)) (t .is)
@@ -463,15 +462,15 @@ module _ (ws table image buffer : List ℕ) where
   pub behind-as-before : drop (session .session .answer .words) (session .buffer) ≡ drop (session .session .answer .words) buffer
   behind-as-before = scenes-sound ws table image buffer .behind
 
--- a session over a table cut in two is the second part's, begun where the first ended
+-- a session over a table cut between two pairs is the second part's, begun where the first ended
 pub session-cut : (ws front table image buffer : List ℕ) (k : ℕ) → length front ≡ 2 * k
     → readingScenes ws (front ++ table) image buffer ≡ readFrom ws table (readingScenes ws front image buffer)
 unfolding readingScenes
 session-cut ws front table image buffer k e = from-cut ws front table k (opened image buffer) e
 
--- a session of one pair is the single call
+-- a session of one pair inside the buffer is the single call
 pub session-of-one : (ws image buffer : List ℕ) (start n : ℕ) → start + n ≤ length ws
-    → readingScenes ws (start ∷ n ∷ []) image buffer ≡ alone (reading (part ws start n) image buffer)
+    → readingScenes ws (start ∷ n ∷ []) image buffer ≡ asSession (reading (part ws start n) image buffer)
 session-of-one = one-pair
 
 -- "a table with no pair is accepted with any image"

@@ -20,7 +20,7 @@ use Rattle.rules.specs.Form.{form}
 use Rattle.rules.specs.Answer.{Outcome, refusalOf, tellsBit, refuse, accept, fitting, room, readParsed, writeParsed, measureParsed, reading, normalising, measuring, commandsOf, does, normalForm, written}
 use Rattle.rules.specs.Pci.{pairsAll, values, parsePairs, toPci, fromPci}
 use Rattle.rules.specs.Valid.{AllValid}
-use Rattle.theory.proofs.Numbers.{not-zero, not-eleven, RefusesList, parse-refuses}
+use Rattle.theory.proofs.Numbers.{not-zero, not-eleven, not-twenty, RefusesList, parse-refuses}
 use Rattle.theory.proofs.Bits.{SetParsed, other, parse-set, pairs-set}
 use Rattle.theory.proofs.Pci.{pairs-refuses}
 use Rattle.theory.proofs.Parse.{parse-accepted}
@@ -71,6 +71,21 @@ pub from-pci-refuses : (ps image buffer : List ℕ) → (fromPci ps image buffer
     → fromPci ps image buffer ≡ refuse (refusalOf (fromPci ps image buffer .answer)) image buffer
 unfolding fromPci
 from-pci-refuses ps image buffer n = write-refuses (λ cs. values ps) (values ps) image buffer (parsePairs image ps) n
+
+-- 20 is about a pair of a table, and no answer of the reader
+
+fitting-not-twenty : (small : Bool) (ws image buffer : List ℕ) (o : Outcome) → o .answer .verdict ≡ 0 → fitting small ws image buffer o .answer .verdict ≡ 20 → ⊥
+fitting-not-twenty true ws image buffer o z e = let f : _≡_ {A = ℕ} 11 20 = e in omega arith
+fitting-not-twenty false ws image buffer o z e = omega (arith, z, e)
+
+read-not-twenty : (ws image buffer : List ℕ) (x : Parsed) → RefusesList 4098 x → readParsed ws image buffer x .answer .verdict ≡ 20 → ⊥
+read-not-twenty ws image buffer (refused f) r e = eqb-false (f .number) 20 (not-twenty r) e
+read-not-twenty ws image buffer (accepted cs) r e =
+    fitting-not-twenty (ltb (room buffer) (length (records 0 cs))) ws image buffer (accept ws cs (recordWords (records 0 cs)) (final image cs) buffer) refl e
+
+pub reading-not-twenty : (ws image buffer : List ℕ) → reading ws image buffer .answer .verdict ≡ 20 → ⊥
+unfolding reading
+reading-not-twenty ws image buffer = read-not-twenty ws image buffer (parse image ws) (parse-refuses image ws)
 
 -- ---- the bit
 

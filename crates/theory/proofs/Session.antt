@@ -3,7 +3,7 @@ use Prim.Native.Nat.{ℕ, suc, _+_, _-_, _*_, _/_, _≤_, _<_}
 use native.Mathlib.Omega.{arith}
 use native.Mathlib.Nat.{add-zero, zero-add}
 use mathlib.Core.Path.{_≡_, refl, ap, sym, _∙_, subst}
-use mathlib.Core.Bool.{Bool, true, false, cond, _||_}
+use mathlib.Core.Bool.{Bool, true, false, cond}
 use mathlib.Core.Logic.{_↔_}
 use mathlib.Core.List.{List, [], _∷_, _++_}
 use lib.Dec.{eqb, leb, ltb}
@@ -11,29 +11,22 @@ use borrow.Author.Tests.{eq-eqb, ne-eqb, eqb-true, eqb-false, leb-false, ltb-fal
 use lib.ListN.{length, getD, take, drop, length-append, length-drop, take-append-drop}
 use lib.Seq.{length-take-le, drop-append-add, drop-cons, drop-drop}
 use Rattle.rules.specs.declared.Answer.{Answer}
-use Rattle.rules.specs.declared.Session.{Session}
+use Rattle.rules.specs.declared.SessionAnswer.{SessionAnswer}
 use Rattle.rules.specs.Values.{refusal}
 use Rattle.rules.specs.Answer.{Outcome, refusalOf, tellsBit, refuse, reading}
-use Rattle.rules.specs.Session.{SessionOutcome, opened, added, left, part, pairCall, withPair, turn, readFrom, readingScenes, Bounded}
+use Rattle.rules.specs.Session.{SessionOutcome, opened, added, left, part, outside, pairCall, withPair, turn, readFrom, readingScenes, Bounded, asSession, SameApplied, firstPairs, nextPair, StopsAt}
 use Rattle.theory.proofs.Bools.{neither}
-use Rattle.theory.proofs.Outcomes.{reading-refuses, reading-tells}
-use Rattle.theory.proofs.Counts.{Counts, counts-refused, reading-counts, reading-not-twenty}
-
--- a single call, as a session of its own
-abbrev pub alone : Outcome → SessionOutcome
-alone o = record { session = record { answer = o .answer; lists = cond (eqb (o .answer .verdict) 0) 1 0 }; image = o .image; buffer = o .buffer }
+use Rattle.theory.proofs.Outcomes.{reading-refuses, reading-not-twenty, reading-tells}
+use Rattle.theory.proofs.Counts.{Counts, counts-refused, reading-counts}
 
 -- ---- the call for a pair
 
 module _ (ws : List ℕ) (start n lists : ℕ) (image buffer : List ℕ) where
-  abbrev outside : Bool
-  outside = leb 4096 lists || ltb (length ws) (start + n)
-
   -- what holds of 20 and of the reader
-  by-call : (P : Outcome → Type 0) → P (refuse (refusal 20 0) image buffer) → (outside ≡ false → P (reading (part ws start n) image buffer))
+  by-call : (P : Outcome → Type 0) → P (refuse (refusal 20 0) image buffer) → (outside ws start n lists ≡ false → P (reading (part ws start n) image buffer))
       → P (pairCall ws start n lists image buffer)
   unfolding pairCall
-  by-call P p q = (elim outside as (λ t. outside ≡ t → P (cond t (refuse (refusal 20 0) image buffer) (reading (part ws start n) image buffer))) [
+  by-call P p q = (elim (outside ws start n lists) as (λ t. outside ws start n lists ≡ t → P (cond t (refuse (refusal 20 0) image buffer) (reading (part ws start n) image buffer))) [
     | true ↦ λ e. p
     | false ↦ λ e. q e
   ]) refl
@@ -55,10 +48,10 @@ module _ (ws : List ℕ) (start n lists : ℕ) (image buffer : List ℕ) where
       (λ e z. let t = neither (leb 4096 lists) (ltb (length ws) (start + n)) e in (leb-false 4096 lists (t .0), ltb-false (length ws) (start + n) (t .1)))
 
   -- 20 exactly where one of the two tests holds, and then at 0
-  pub call-twenty : (pairCall ws start n lists image buffer .answer .verdict ≡ 20) ↔ (outside ≡ true)
+  pub call-twenty : (pairCall ws start n lists image buffer .answer .verdict ≡ 20) ↔ (outside ws start n lists ≡ true)
   unfolding pairCall
   call-twenty = (
-    (elim outside as (λ t. cond t (refuse (refusal 20 0) image buffer) (reading (part ws start n) image buffer) .answer .verdict ≡ 20 → t ≡ true) [
+    (elim (outside ws start n lists) as (λ t. cond t (refuse (refusal 20 0) image buffer) (reading (part ws start n) image buffer) .answer .verdict ≡ 20 → t ≡ true) [
       | true ↦ λ e. refl
       | false ↦ λ e. absurd (reading-not-twenty (part ws start n) image buffer e)
     ]),
@@ -75,7 +68,7 @@ module _ (ws : List ℕ) (start n lists : ℕ) (image buffer : List ℕ) where
 -- ---- one pair more
 
 -- the sums with a call more
-added-bounded : (s : Session) (a : Answer) → Bounded s → (a .verdict ≡ 0 → s .lists < 4096) → a .commands ≤ 4096 → a .records ≤ 4096 → a .words ≡ 4 * a .records
+added-bounded : (s : SessionAnswer) (a : Answer) → Bounded s → (a .verdict ≡ 0 → s .lists < 4096) → a .commands ≤ 4096 → a .records ≤ 4096 → a .words ≡ 4 * a .records
     → ((a .verdict ≡ 0 → ⊥) → (a .commands ≡ 0) × (a .records ≡ 0)) → Bounded (added s a)
 added-bounded s a b few c r w none =
     let sums : Answer = added s a .answer in
@@ -112,15 +105,6 @@ sound-opened image buffer = record {
   behind = refl;
   long = refl;
 }
-
--- two sessions with the same lists applied: the counts, the image and the buffer
-pub record SameApplied (r s : SessionOutcome) : Type 0 where
-  pub commands : r .session .answer .commands ≡ s .session .answer .commands
-  pub records : r .session .answer .records ≡ s .session .answer .records
-  pub words : r .session .answer .words ≡ s .session .answer .words
-  pub lists : r .session .lists ≡ s .session .lists
-  pub image : r .image ≡ s .image
-  pub buffer : r .buffer ≡ s .buffer
 
 module _ (ws : List ℕ) (start n : ℕ) (s : SessionOutcome) where
   call : Outcome
@@ -302,38 +286,24 @@ module _ (ws table image buffer : List ℕ) where
   abbrev whole : SessionOutcome
   whole = readingScenes ws table image buffer
 
-  -- the session over the first pairs
-  abbrev pub first : ℕ → SessionOutcome
-  first k = readingScenes ws (take (2 * k) table) image buffer
-
-  -- and the call for the next
-  abbrev pub nextPair : ℕ → SessionOutcome
-  nextPair k = withPair ws (getD table (2 * k) 0) (getD table (2 * k + 1) 0) (first k)
-
-  -- a refused session has its end at pair k
-  pub record StopsAt (k : ℕ) : Type 0 where
-    pub there : k < length table / 2
-    pub accepted-before : first k .session .answer .verdict ≡ 0
-    pub is : whole ≡ nextPair k
-
-  pub whole-stops : (whole .session .answer .verdict ≡ 0 → ⊥) → StopsAt (whole .session .lists)
+  pub whole-stops : (whole .session .answer .verdict ≡ 0 → ⊥) → StopsAt ws table image buffer (whole .session .lists)
   unfolding readingScenes
   whole-stops z =
       let t = stops ws table (opened image buffer) refl z in
       let lists-are : whole .session .lists ≡ t .pairs =
       ap (λ (o : SessionOutcome). o .session .lists) (t .is)
-      ∙ pair-refused ws _ _ (first (t .pairs)) (λ e. z (ap (λ (o : SessionOutcome). o .session .answer .verdict) (t .is) ∙ e)) .lists ∙ t .lists ∙ zero-add (t .pairs) in
-      subst StopsAt (sym lists-are) (record { there = t .there; accepted-before = t .accepted-before; is = t .is })
+      ∙ pair-refused ws _ _ (firstPairs ws table image buffer (t .pairs)) (λ e. z (ap (λ (o : SessionOutcome). o .session .answer .verdict) (t .is) ∙ e)) .lists ∙ t .lists ∙ zero-add (t .pairs) in
+      subst (StopsAt ws table image buffer) (sym lists-are) (record { there = t .there; accepted-before = t .accepted-before; is = t .is })
 
   -- a pair behind accepted ones whose call refuses is that end
-  pub stops-at : (k : ℕ) → k < length table / 2 → first k .session .answer .verdict ≡ 0 → (nextPair k .session .answer .verdict ≡ 0 → ⊥) → StopsAt k
+  pub stops-at : (k : ℕ) → k < length table / 2 → firstPairs ws table image buffer k .session .answer .verdict ≡ 0 → (nextPair ws table image buffer k .session .answer .verdict ≡ 0 → ⊥) → StopsAt ws table image buffer k
   unfolding readingScenes
   stops-at k h z r = record {
     there = h;
     accepted-before = z;
     is = ap (λ (l : List ℕ). readFrom ws l (opened image buffer)) (sym (take-append-drop (2 * k) table))
         ∙ from-cut ws (take (2 * k) table) (drop (2 * k) table) k (opened image buffer) (length-take-le (2 * k) table (omega arith))
-        ∙ from-pair ws table k (first k) h z ∙ from-stopped ws (drop (2 * (k + 1)) table) (nextPair k) r;
+        ∙ from-pair ws table k (firstPairs ws table image buffer k) h z ∙ from-stopped ws (drop (2 * (k + 1)) table) (nextPair ws table image buffer k) r;
   }
 
   pub whole-accepted : whole .session .answer .verdict ≡ 0 → whole .session .lists ≡ length table / 2
@@ -341,13 +311,13 @@ module _ (ws table image buffer : List ℕ) where
   whole-accepted z = accepts ws table (opened image buffer) z .1 ∙ zero-add (length table / 2)
 
   -- a pair more is a list more
-  pub first-lists : (k : ℕ) → k ≤ length table / 2 → first k .session .answer .verdict ≡ 0 → first k .session .lists ≡ k
+  pub first-lists : (k : ℕ) → k ≤ length table / 2 → firstPairs ws table image buffer k .session .answer .verdict ≡ 0 → firstPairs ws table image buffer k .session .lists ≡ k
   unfolding readingScenes
   first-lists k h z = accepts ws (take (2 * k) table) (opened image buffer) z .1 ∙ omega (arith, length-take-le (2 * k) table (omega arith))
 
 -- a session of one pair
 pub one-pair : (ws image buffer : List ℕ) (start n : ℕ) → start + n ≤ length ws
-    → readingScenes ws (start ∷ n ∷ []) image buffer ≡ alone (reading (part ws start n) image buffer)
+    → readingScenes ws (start ∷ n ∷ []) image buffer ≡ asSession (reading (part ws start n) image buffer)
 unfolding readingScenes readFrom turn pairCall
 one-pair ws image buffer start n h =
     let o = reading (part ws start n) image buffer in

@@ -1,7 +1,7 @@
 // Runs the second program's cases (second/README.md, "The vectors file") through the functions that they are for, and
 // compares a digest of all that these give. A wrong digest, and so a damaged file, shows as a difference.
 use rules::Answer;
-use rules::Session;
+use rules::SessionAnswer;
 ghost use Prim.Native.Nat.{_+_, _<_, _≤_};
 ghost use lib.ListN.{length};
 
@@ -106,8 +106,8 @@ fn add(tally: &mut [u32; TALLY], i: usize) {
 }
 
 // The answer of a function that is not for several lists.
-fn alone(answer: Answer) -> Session {
-    Session { answer, lists: 0 }
+fn single(answer: Answer) -> SessionAnswer {
+    SessionAnswer { answer, lists: 0 }
 }
 
 // A function on the case's words: a list, pairs, or with the arguments as a table the lists of a session.
@@ -117,13 +117,13 @@ fn call(
     arguments: &[u32],
     image: &mut [u32],
     buffer: &mut [u32],
-) -> Session {
+) -> SessionAnswer {
     match function {
-        READER => alone(reader::read(words, image, buffer)),
-        NORMALISER => alone(form::normalise(words, image, buffer)),
-        TO_PCI => alone(pci_writer::to_pci(words, image, buffer)),
-        FROM_PCI => alone(pci_reader::from_pci(words, image, buffer)),
-        MEASURER => alone(form::measure(words, image)),
+        READER => single(reader::read(words, image, buffer)),
+        NORMALISER => single(form::normalise(words, image, buffer)),
+        TO_PCI => single(pci_writer::to_pci(words, image, buffer)),
+        FROM_PCI => single(pci_reader::from_pci(words, image, buffer)),
+        MEASURER => single(form::measure(words, image)),
         _ => session::read_scenes(words, arguments, image, buffer),
     }
 }

@@ -269,7 +269,7 @@ fn before_the_list() -> Vec<Case> {
         (256, [7, 12]),
         (256, [4, 15]),
     ] {
-        // From word 4 on 06000000 in all words but those of a list that is good.
+        // 06000000 behind a good list of three words.
         let mut words = vec![0x06000000; 18];
         words[..3].copy_from_slice(GOOD[0]);
         for front in [&[][..], &[0, 3]] {

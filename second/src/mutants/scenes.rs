@@ -139,17 +139,20 @@ fn ignored_pairs(case: &Case, outcome: Outcome) -> Outcome {
 }
 
 /// 2 only for a list that has words: empty ones before it are accepted.
-fn empty_with_any_image(case: &Case, outcome: Outcome) -> Outcome {
-    let number = outcome.more[0] as usize;
-    match (outcome.answer[0], case.arguments.get(2 * number + 1)) {
-        (2, Some(0)) => {
-            let mut next = outcome;
-            next.answer[0] = 0;
-            next.more[0] += 1;
-            next
-        }
-        _ => outcome,
+fn empty_with_any_image(case: &Case, mut outcome: Outcome) -> Outcome {
+    if outcome.answer[0] != 2 {
+        return outcome;
     }
+    let pairs = case.arguments.chunks_exact(2);
+    let inside = |pair: &[u32]| u64::from(pair[0]) + u64::from(pair[1]) <= case.list.len() as u64;
+    let empty = pairs.clone().take_while(|pair| pair[1] == 0 && inside(pair)).count();
+    outcome.more[0] = empty as u32;
+    outcome.answer[0] = match pairs.clone().nth(empty) {
+        None => 0,
+        Some(pair) if inside(pair) => 2,
+        Some(_) => 20,
+    };
+    outcome
 }
 
 /// Empty lists are no pairs of the 4,096.

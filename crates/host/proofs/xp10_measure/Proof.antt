@@ -1,4 +1,4 @@
-use Rattle.host.proofs.Call.{measure-small, answer-result}
+use Rattle.host.proofs.Call.{measure-fits, answer-result}
 use borrow.Author.Needs.{needs}
 use Rattle.host.proofs.xp10_measure.Statement.{statement}
 use Rattle.host.proofs.xp10_measure.Tie as tie
@@ -9,4 +9,4 @@ returns c = answer-result (c .before .before .before .before .before .before .be
 pub xp10-measure-spec : {M : Type 1} → statement M
 xp10-measure-spec =
     tie.close
-    (tie.spec (λ c κs. search needs) (λ c κs. measure-small _ _ (c .before .measure .ensures)) (λ c. search needs) returns)
+    (tie.spec (λ c κs. search needs) (λ c κs. measure-fits _ _ (c .before .measure .ensures)) (λ c. search needs) returns)

@@ -1,5 +1,5 @@
 use borrow.Author.Needs.{needs}
-use Rattle.host.proofs.Call.{session-small, session-result}
+use Rattle.host.proofs.Call.{session-fits, session-result}
 use Rattle.host.proofs.xp10_read_scenes.Statement.{statement}
 use Rattle.host.proofs.xp10_read_scenes.Tie as tie
 
@@ -9,5 +9,5 @@ returns c = session-result (c .before .before .before .before .before .before .b
 pub xp10-read-scenes-spec : {M : Type 1} → statement M
 xp10-read-scenes-spec =
     tie.close
-    (tie.spec (λ c κs. search needs) (λ c κs. session-small _ _ _ _ (c .before .before .before .before .before .read-scenes .ensures))
+    (tie.spec (λ c κs. search needs) (λ c κs. session-fits _ _ _ _ (c .before .before .before .before .before .read-scenes .ensures))
     (λ c. search needs) (λ c. search needs) (λ c. search needs) returns)

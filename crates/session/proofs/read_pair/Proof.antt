@@ -11,7 +11,7 @@ returns c =
 part-read-end : tie.Need-part-read-end
 part-read-end c =
     let a = c .before .before .before .before .before .before .args in
-    inside (a .lists) _ (a .words .now) (c .if1 .left)
+    inside (a .words .now) _ _ (a .lists) (c .if1 .left)
 
 returns-2 : tie.Need-returns-2
 returns-2 c =
