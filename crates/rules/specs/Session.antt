@@ -69,6 +69,10 @@ pairCall ws start n lists image buffer = cond (outside ws start n lists) (refuse
 abbrev pub withPair : List ℕ → ℕ → ℕ → SessionOutcome → SessionOutcome
 withPair ws start n s = joined s (pairCall ws start n (s .session .lists) (s .image) (left s))
 
+-- pair k of a table
+abbrev pub withPairOf : List ℕ → List ℕ → ℕ → SessionOutcome → SessionOutcome
+withPairOf ws table k s = withPair ws (getD table (2 * k) 0) (getD table (2 * k + 1) 0) s
+
 -- "The first refused list stops the call; lists before it stay applied"
 unfoldable pub turn : List ℕ → ℕ → ℕ → SessionOutcome → SessionOutcome
 turn ws start n s = cond (eqb (s .session .answer .verdict) 0) (withPair ws start n s) s
@@ -87,7 +91,7 @@ readingScenes ws table image buffer = readFrom ws table (opened image buffer)
 abbrev pub sessionWords : SessionAnswer → List ℕ
 sessionWords s = answerWords (s .answer) ++ s .lists ∷ []
 
--- at most 4,096 lists are applied, each with at most 4,096 commands and as many records
+-- at most 4,096 lists are applied, each with at most 4,096 commands and as many records, of four words each
 pub record Bounded (s : SessionAnswer) : Type 0 where
   pub lists : s .lists ≤ 4096
   pub commands : s .answer .commands ≤ 4096 * s .lists
@@ -116,7 +120,7 @@ module _ (ws table image buffer : List ℕ) where
 
   -- and with the call for the next
   abbrev pub nextPair : ℕ → SessionOutcome
-  nextPair k = withPair ws (getD table (2 * k) 0) (getD table (2 * k + 1) 0) (firstPairs k)
+  nextPair k = withPairOf ws table k (firstPairs k)
 
   -- it ends with pair k, and all before are accepted
   pub record StopsAt (k : ℕ) : Type 0 where

@@ -4,8 +4,6 @@ use native.Mathlib.Omega.{arith}
 use mathlib.Core.Path.{_≡_, ap, sym, _∙_, subst}
 use mathlib.Core.Bool.{Bool, true, false, cond}
 use mathlib.Core.List.{List, [], _++_, append-nil}
-use lib.Dec.{leb, ltb}
-use borrow.Author.Tests.{ltb-false}
 use borrow.Rule.Slice.PartAt.{part-to-end}
 use borrow.Rule.Slice.PartMut.{putMid}
 use lib.ListN.{length, take, drop}
@@ -15,7 +13,6 @@ use Rattle.rules.specs.declared.SessionAnswer.{SessionAnswer}
 use Rattle.rules.specs.Values.{refusal}
 use Rattle.rules.specs.Answer.{Outcome, refusedAnswer, reading}
 use Rattle.rules.specs.Session.{added, joined, part, outside, pairCall, withPair}
-use Rattle.theory.proofs.Bools.{neither}
 use Rattle.theory.proofs.Counts.{Counts}
 use Rattle.theory.proofs.Session.{call-counts}
 
@@ -23,10 +20,6 @@ use Rattle.theory.proofs.Session.{call-counts}
 pub one-at-most : (b : Bool) → cond b 1 0 ≤ 1
 one-at-most true = omega arith
 one-at-most false = omega arith
-
--- a pair that is not outside ends inside the buffer
-pub inside : (ws : List ℕ) (start n lists : ℕ) → outside ws start n lists ≡ false → start + n ≤ length ws
-inside ws start n lists e = ltb-false (length ws) (start + n) (neither (leb 4096 lists) (ltb (length ws) (start + n)) e .1)
 
 -- ---- the call for a pair, by the numbers that were read from the table
 

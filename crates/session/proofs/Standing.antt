@@ -3,8 +3,8 @@ use Prim.Native.Nat.{ℕ, _+_, _*_, _/_, _≤_, _<_}
 use native.Mathlib.Omega.{arith}
 use mathlib.Core.Path.{_≡_, refl, ap, sym, _∙_, subst}
 use mathlib.Core.List.{List}
-use lib.ListN.{length, getD, drop, length-drop}
-use Rattle.rules.specs.Session.{SessionOutcome, opened, withPair, readFrom, readingScenes}
+use lib.ListN.{length, drop, length-drop}
+use Rattle.rules.specs.Session.{SessionOutcome, opened, withPairOf, readFrom, readingScenes}
 use Rattle.theory.proofs.Session.{Sound, sound-opened, sound-pair, pair-applied, from-end, from-stopped, from-pair}
 
 module _ (ws table image₀ buffer₀ : List ℕ) where
@@ -25,7 +25,7 @@ module _ (ws table image₀ buffer₀ : List ℕ) where
 
     -- the next pair
     module _ (g : s .session .lists < length table / 2) (t : SessionOutcome)
-        (is : t ≡ withPair ws (getD table (2 * s .session .lists) 0) (getD table (2 * s .session .lists + 1) 0) s) where
+        (is : t ≡ withPairOf ws table (s .session .lists) s) where
       rest : readFrom ws (drop (2 * (s .session .lists + 1)) table) t ≡ readingScenes ws table image₀ buffer₀
       rest = ap (readFrom ws (drop (2 * (s .session .lists + 1)) table)) is ∙ sym (from-pair ws table (s .session .lists) s g (h .applied)) ∙ h .rest-is
 

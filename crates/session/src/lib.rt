@@ -7,9 +7,9 @@ use rules::Refusal;
 use rules::SessionAnswer;
 ghost use mathlib.Core.Path.{_≡_};
 ghost use mathlib.Core.Bool.{cond};
-ghost use Prim.Native.Nat.{_+_, _*_, _/_, _≤_, _<_};
-ghost use lib.ListN.{length, getD};
-ghost use Rattle.rules.specs.Session.{noLists, added, pairCall, withPair, readingScenes, Bounded};
+ghost use Prim.Native.Nat.{_/_, _≤_, _<_};
+ghost use lib.ListN.{length};
+ghost use Rattle.rules.specs.Session.{noLists, added, pairCall, withPairOf, readingScenes, Bounded};
 
 fn no_lists() -> SessionAnswer
     ensures { λ r. ⌜ r ≡ noLists ⌝ }
@@ -77,7 +77,7 @@ fn read_next(
     s: SessionAnswer,
 ) -> SessionAnswer
     requires { ⌜ Bounded s × (s .answer .words ≤ length (now records)) × (s .lists < length (now table) / 2) ⌝ }
-    ensures { λ r. ⌜ record { session = r; image = now (image .exit); buffer = now (records .exit) } ≡ withPair (now (words .entry)) (getD (now (table .entry)) (2 * s .lists) 0) (getD (now (table .entry)) (2 * s .lists + 1) 0) (record { session = s; image = now (image .entry); buffer = now (records .entry) }) ⌝ }
+    ensures { λ r. ⌜ record { session = r; image = now (image .exit); buffer = now (records .exit) } ≡ withPairOf (now (words .entry)) (now (table .entry)) (s .lists) (record { session = s; image = now (image .entry); buffer = now (records .entry) }) ⌝ }
 {
     let at = 2 * s.lists;
     let used = s.answer.words;

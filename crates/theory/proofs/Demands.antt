@@ -19,11 +19,11 @@ use Rattle.rules.specs.declared.Answer.{Answer}
 use Rattle.rules.specs.declared.Refusal.{Refusal}
 use Rattle.rules.specs.Answer.{Outcome, refusedAnswer, refusalOf, tellsBit, refuse, accept, room, reading, normalising, measuring, commandsOf, does, normalForm, written}
 use Rattle.rules.specs.Pci.{pairsAll, values, wholePairs, parsePairs, toPci, fromPci}
+use Rattle.rules.specs.Session.{SessionOutcome, opened, left, part, outside, readFrom, readingScenes, Bounded, asSession, SameApplied, firstPairs, nextPair, StopsAt}
 use Rattle.theory.proofs.Parse.{parse-accepted, accepted-parse}
 use Rattle.theory.proofs.Records.{records-few}
 use Rattle.theory.proofs.Verdict.{written-accept, reads, reading-zero, normalises, normalising-zero}
 use Rattle.theory.proofs.Pci.{values-all, whole-all, whole-values, pairs-length, carries-pairs, pairs-carry, to-pci, to-pci-zero, from-pci, from-pci-zero}
-use Rattle.rules.specs.Session.{SessionOutcome, opened, left, part, outside, readFrom, readingScenes, Bounded, asSession, SameApplied, firstPairs, nextPair, StopsAt}
 use Rattle.theory.proofs.Outcomes as laws
 use Rattle.theory.proofs.Session.{call-twenty, call-at-zero, call-reads, pair-refused, from-end, from-cut, scenes-sound, whole-stops, whole-accepted, stops-at, first-lists, one-pair}
 

@@ -14,12 +14,18 @@ use Rattle.rules.specs.declared.Answer.{Answer}
 use Rattle.rules.specs.declared.SessionAnswer.{SessionAnswer}
 use Rattle.rules.specs.Values.{refusal}
 use Rattle.rules.specs.Answer.{Outcome, refusalOf, tellsBit, refuse, reading}
-use Rattle.rules.specs.Session.{SessionOutcome, opened, added, left, part, outside, pairCall, withPair, turn, readFrom, readingScenes, Bounded, asSession, SameApplied, firstPairs, nextPair, StopsAt}
+use Rattle.rules.specs.Session.{SessionOutcome, opened, added, left, part, outside, pairCall, withPair, withPairOf, turn, readFrom, readingScenes, Bounded, asSession, SameApplied, firstPairs, nextPair, StopsAt}
 use Rattle.theory.proofs.Bools.{neither}
 use Rattle.theory.proofs.Outcomes.{reading-refuses, reading-not-twenty, reading-tells}
 use Rattle.theory.proofs.Counts.{Counts, counts-refused, reading-counts}
 
 -- ---- the call for a pair
+
+-- neither of the two tests for 20 holds
+pub inside : (ws : List ℕ) (start n lists : ℕ) → outside ws start n lists ≡ false → (lists < 4096) × (start + n ≤ length ws)
+inside ws start n lists e =
+    let t = neither (leb 4096 lists) (ltb (length ws) (start + n)) e in
+    (leb-false 4096 lists (t .0), ltb-false (length ws) (start + n) (t .1))
 
 module _ (ws : List ℕ) (start n lists : ℕ) (image buffer : List ℕ) where
   -- what holds of 20 and of the reader
@@ -34,18 +40,16 @@ module _ (ws : List ℕ) (start n lists : ℕ) (image buffer : List ℕ) where
   pub call-counts : Counts (pairCall ws start n lists image buffer) buffer
   call-counts = by-call (λ o. Counts o buffer) (counts-refused (refusal 20 0) image buffer (omega arith)) (λ e. reading-counts (part ws start n) image buffer)
 
-  pub call-refuses : (pairCall ws start n lists image buffer .answer .verdict ≡ 0 → ⊥)
+  call-refuses : (pairCall ws start n lists image buffer .answer .verdict ≡ 0 → ⊥)
       → pairCall ws start n lists image buffer ≡ refuse (refusalOf (pairCall ws start n lists image buffer .answer)) image buffer
   call-refuses = by-call (λ o. (o .answer .verdict ≡ 0 → ⊥) → o ≡ refuse (refusalOf (o .answer)) image buffer) (λ z. refl) (λ e. reading-refuses (part ws start n) image buffer)
 
-  pub call-tells : tellsBit (pairCall ws start n lists image buffer .answer) ≡ true
+  call-tells : tellsBit (pairCall ws start n lists image buffer .answer) ≡ true
   call-tells = by-call (λ o. tellsBit (o .answer) ≡ true) refl (λ e. reading-tells (part ws start n) image buffer)
 
-  -- a list is applied: the pair is one of the first 4,096, and inside the buffer
-  pub call-inside : pairCall ws start n lists image buffer .answer .verdict ≡ 0 → (lists < 4096) × (start + n ≤ length ws)
-  call-inside = by-call (λ o. o .answer .verdict ≡ 0 → (lists < 4096) × (start + n ≤ length ws))
-      (λ z. let f : _≡_ {A = ℕ} 20 0 = z in absurd (omega arith))
-      (λ e z. let t = neither (leb 4096 lists) (ltb (length ws) (start + n)) e in (leb-false 4096 lists (t .0), ltb-false (length ws) (start + n) (t .1)))
+  -- a list is applied: its pair is one of the first 4,096
+  call-few : pairCall ws start n lists image buffer .answer .verdict ≡ 0 → lists < 4096
+  call-few = by-call (λ o. o .answer .verdict ≡ 0 → lists < 4096) (λ z. let f : _≡_ {A = ℕ} 20 0 = z in absurd (omega arith)) (λ e z. inside ws start n lists e .0)
 
   -- 20 exactly where one of the two tests holds, and then at 0
   pub call-twenty : (pairCall ws start n lists image buffer .answer .verdict ≡ 20) ↔ (outside ws start n lists ≡ true)
@@ -121,7 +125,7 @@ module _ (ws : List ℕ) (start n : ℕ) (s : SessionOutcome) where
       let rest = length-drop u (s .buffer) in
       let whole : length (front ++ call .buffer) ≡ length (s .buffer) = omega (arith, length-append front (call .buffer), u-is, rest, c .long, h .fits) in
       record {
-        bounded = added-bounded (s .session) (call .answer) (h .bounded) (λ z. call-inside ws start n (s .session .lists) (s .image) (left s) z .0) (c .commands) (c .records) (c .words)
+        bounded = added-bounded (s .session) (call .answer) (h .bounded) (call-few ws start n (s .session .lists) (s .image) (left s)) (c .commands) (c .records) (c .words)
             (λ z. let r = call-refuses ws start n (s .session .lists) (s .image) (left s) z in
             (ap (λ (o : Outcome). o .answer .commands) r, ap (λ (o : Outcome). o .answer .records) r));
         position = c .position;
@@ -150,12 +154,12 @@ module _ (ws : List ℕ) (start n : ℕ) (s : SessionOutcome) where
   pair-applied z = ap (λ (t : Bool). s .session .lists + cond t 1 0) (eq-eqb _ 0 z)
 
   -- its turn, where all lists before were applied
-  pub turn-is : s .session .answer .verdict ≡ 0 → turn ws start n s ≡ withPair ws start n s
+  turn-is : s .session .answer .verdict ≡ 0 → turn ws start n s ≡ withPair ws start n s
   unfolding turn
   turn-is z = rw (eq-eqb (s .session .answer .verdict) 0 z)
 
   -- and where one was refused
-  pub turn-stopped : (s .session .answer .verdict ≡ 0 → ⊥) → turn ws start n s ≡ s
+  turn-stopped : (s .session .answer .verdict ≡ 0 → ⊥) → turn ws start n s ≡ s
   unfolding turn
   turn-stopped z = rw (ne-eqb (s .session .answer .verdict) 0 z)
 
@@ -173,7 +177,7 @@ module _ (ws : List ℕ) (start n : ℕ) (s : SessionOutcome) where
 -- ---- the pairs in turn
 
 module _ (ws : List ℕ) where
-  pub sound-from : (table buffer : List ℕ) (s : SessionOutcome) → Sound buffer s → Sound buffer (readFrom ws table s)
+  sound-from : (table buffer : List ℕ) (s : SessionOutcome) → Sound buffer s → Sound buffer (readFrom ws table s)
   unfolding readFrom
   sound-from [] buffer s h = h
   sound-from (a ∷ []) buffer s h = h
@@ -200,12 +204,12 @@ module _ (ws : List ℕ) where
   from-cut (start ∷ n ∷ front) table k s e = from-cut front table (k - 1) (turn ws start n s) (omega (arith, e))
 
   -- a session is refused: all pairs before are accepted, and the call for the next one is the one that refuses
-  pub record Stops (table : List ℕ) (s : SessionOutcome) : Type 0 where
+  record Stops (table : List ℕ) (s : SessionOutcome) : Type 0 where
     pub pairs : ℕ
     pub there : pairs < length table / 2
     pub accepted-before : readFrom ws (take (2 * pairs) table) s .session .answer .verdict ≡ 0
     pub lists : readFrom ws (take (2 * pairs) table) s .session .lists ≡ s .session .lists + pairs
-    pub is : readFrom ws table s ≡ withPair ws (getD table (2 * pairs) 0) (getD table (2 * pairs + 1) 0) (readFrom ws (take (2 * pairs) table) s)
+    pub is : readFrom ws table s ≡ withPairOf ws table pairs (readFrom ws (take (2 * pairs) table) s)
 
   -- at the first pair
   stops-here : (start n : ℕ) (table : List ℕ) (s : SessionOutcome) → s .session .answer .verdict ≡ 0
@@ -235,7 +239,7 @@ module _ (ws : List ℕ) where
         is = rw (e, e′) (l .is);
       }
 
-  pub stops : (table : List ℕ) (s : SessionOutcome) → s .session .answer .verdict ≡ 0 → (readFrom ws table s .session .answer .verdict ≡ 0 → ⊥) → Stops table s
+  stops : (table : List ℕ) (s : SessionOutcome) → s .session .answer .verdict ≡ 0 → (readFrom ws table s .session .answer .verdict ≡ 0 → ⊥) → Stops table s
   unfolding readFrom
   stops [] s z r = absurd (r z)
   stops (a ∷ []) s z r = absurd (r z)
@@ -248,7 +252,7 @@ module _ (ws : List ℕ) where
       ]) refl
 
   -- a session that is accepted has applied the list of each pair
-  pub accepts : (table : List ℕ) (s : SessionOutcome) → readFrom ws table s .session .answer .verdict ≡ 0
+  accepts : (table : List ℕ) (s : SessionOutcome) → readFrom ws table s .session .answer .verdict ≡ 0
       → (s .session .answer .verdict ≡ 0) × (readFrom ws table s .session .lists ≡ s .session .lists + length table / 2)
   unfolding readFrom
   accepts [] s a = (a, omega arith)
@@ -266,7 +270,7 @@ scenes-sound ws table image buffer = sound-from ws table buffer (opened image bu
 -- ---- the whole call
 
 -- two words of a table from pair k on, and what follows
-pub pair-at : (table : List ℕ) (k : ℕ) → k < length table / 2 → drop (2 * k) table ≡ getD table (2 * k) 0 ∷ getD table (2 * k + 1) 0 ∷ drop (2 * (k + 1)) table
+pair-at : (table : List ℕ) (k : ℕ) → k < length table / 2 → drop (2 * k) table ≡ getD table (2 * k) 0 ∷ getD table (2 * k + 1) 0 ∷ drop (2 * (k + 1)) table
 pair-at table k h =
     let n : 2 * (k + 1) ≡ suc (suc (2 * k)) = omega arith in
     let m : 2 * k + 1 ≡ suc (2 * k) = omega arith in
@@ -276,7 +280,7 @@ pair-at table k h =
 
 -- the pair behind those that are accepted
 pub from-pair : (ws table : List ℕ) (k : ℕ) (s : SessionOutcome) → k < length table / 2 → s .session .answer .verdict ≡ 0
-    → readFrom ws (drop (2 * k) table) s ≡ readFrom ws (drop (2 * (k + 1)) table) (withPair ws (getD table (2 * k) 0) (getD table (2 * k + 1) 0) s)
+    → readFrom ws (drop (2 * k) table) s ≡ readFrom ws (drop (2 * (k + 1)) table) (withPairOf ws table k s)
 unfolding readFrom
 from-pair ws table k s h z =
     ap (λ (l : List ℕ). readFrom ws l s) (pair-at table k h)

@@ -216,7 +216,7 @@ fn run_list(
     digest
 }
 
-// The digest of the functions that the tag is for.
+// The digest of the functions that the tag is for; of an unknown tag, of none.
 fn run_case(
     front: &[u32],
     words: &[u32],
@@ -227,20 +227,22 @@ fn run_case(
 ) -> u32
     requires { ⌜ 9 ≤ length (now front) ⌝ }
 {
-    if front[0] == 0 {
-        return run_list(front, words, arguments, image, buffer, tally);
+    let tag = front[0];
+    match tag {
+        0 => run_list(front, words, arguments, image, buffer, tally),
+        1 => run_function(
+            SCENES,
+            front,
+            5,
+            words,
+            arguments,
+            image,
+            buffer,
+            DIGEST,
+            tally,
+        ),
+        _ => DIGEST,
     }
-    run_function(
-        SCENES,
-        front,
-        5,
-        words,
-        arguments,
-        image,
-        buffer,
-        DIGEST,
-        tally,
-    )
 }
 
 // ---- the program

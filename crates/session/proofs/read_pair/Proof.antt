@@ -1,5 +1,6 @@
 use borrow.Author.Needs.{needs}
-use Rattle.session.proofs.Pairs.{inside, call-outside, call-inside}
+use Rattle.theory.proofs.Session.{inside}
+use Rattle.session.proofs.Pairs.{call-outside, call-inside}
 use Rattle.session.proofs.read_pair.Statement.{statement}
 use Rattle.session.proofs.read_pair.Tie as tie
 
@@ -11,7 +12,7 @@ returns c =
 part-read-end : tie.Need-part-read-end
 part-read-end c =
     let a = c .before .before .before .before .before .before .args in
-    inside (a .words .now) _ _ (a .lists) (c .if1 .left)
+    inside (a .words .now) _ _ (a .lists) (c .if1 .left) .1
 
 returns-2 : tie.Need-returns-2
 returns-2 c =
