@@ -10,7 +10,7 @@ use self::commands::table;
 use crate::prng::{self, Prng};
 use crate::rules::{self, IMAGE_WORDS, RECORD_WORDS};
 
-pub use fixed::{fixed_cases, fixed_sample};
+pub use fixed::{fixed_cases, fixed_sample, one_or_two_bits, OneOrTwoBits};
 pub use pairs::{pairs as pairs_of, random_pairs};
 pub use random::{any_list, any_refused_list, equivalent_list, random_case};
 pub use sessions::{fixed_sessions, random_session, stored_sessions};

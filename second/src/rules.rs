@@ -1,5 +1,5 @@
 //! Reading, normalising and listing by document 01, with PCI writes by Ticket 1 of document 02, the
-//! bit and the clashes told by Ticket 2, the page thresholds by Ticket 3, and the form's length told
+//! bit and the clashes told by Tickets 2 and 6, the page thresholds by Ticket 3, and the form's length told
 //! by Ticket 4, and several lists in one call by Ticket 5; and what the tool says and writes, by its own
 //! paper.
 //!

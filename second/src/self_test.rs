@@ -5,7 +5,7 @@ mod scenes;
 
 use crate::agreement;
 use crate::listings::bytes;
-use crate::lists::{self, Case, CaseKind, Purpose};
+use crate::lists::{self, Case, CaseKind, OneOrTwoBits, Purpose};
 use crate::outcome::{self, prefilled, Function};
 use crate::paper::{self, Expected, PaperCase};
 use crate::prng::Prng;
@@ -13,13 +13,14 @@ use crate::rules::{self, Answer, Refusal, Task, IMAGE_WORDS, NO_BIT, RECORD_WORD
 use crate::runs;
 
 /// Each panics when it fails.
-pub const CHECKS: [(&str, fn()); 15] = [
+pub const CHECKS: [(&str, fn()); 16] = [
     ("cases of document 01", paper_cases),
     ("the guide's writes", guide_writes),
     ("page thresholds", page_thresholds),
     ("listing", listings),
     ("lent words", lent_words),
     ("the bit told", told_bit),
+    ("the lowest of one bit or two", lowest_bit),
     ("room", room),
     ("room told", room_told),
     ("demand 3", demand_3),
@@ -230,7 +231,7 @@ fn lent_words() {
     }
 }
 
-/// The bit is below 32 exactly with 6, and is then one that is set in the word at the position.
+/// The bit is below 32 exactly with 6, and is then the lowest undefined one of the word at the position.
 fn told_bit() {
     let mut told = [0; 32];
     for number in 0..RANDOM_LISTS {
@@ -262,6 +263,17 @@ fn bit_is_lowest(list: Vec<u32>, position: usize, bit: u32) {
     assert_eq!(refusal_without(0), refusal);
     assert_ne!(refusal_without(1 << bit), refusal);
     assert_eq!(refusal_without((1 << bit) - 1), refusal);
+}
+
+/// Of every bit alone and of every two of a word the lowest undefined one is told, and 6 is given exactly
+/// where there is one.
+fn lowest_bit() {
+    for OneOrTwoBits { list, word, undefined } in lists::one_or_two_bits() {
+        let told = rules::paper().walk(&list).1.filter(|refusal| refusal.verdict == 6);
+        let lowest = undefined.first().map(|&bit| bit as u32);
+        let expected = lowest.map(|bit| Refusal { verdict: 6, position: word, bit });
+        assert_eq!(told, expected, "{list:08X?}");
+    }
 }
 
 /// 11 is given exactly when the words to write don't fit.
@@ -506,6 +518,11 @@ mod tests {
     #[test]
     fn told_bit() {
         super::told_bit();
+    }
+
+    #[test]
+    fn lowest_bit() {
+        super::lowest_bit();
     }
 
     #[test]

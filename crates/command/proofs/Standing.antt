@@ -14,7 +14,7 @@ use Rattle.rules.specs.Command.{Command, words, commandSize}
 use Rattle.rules.specs.Valid.{Valid}
 use Rattle.rules.specs.Form.{read}
 use Rattle.theory.proofs.Rows.{row-small}
-use Rattle.theory.proofs.Valid.{valid-size, valid-taken}
+use Rattle.theory.proofs.Valid.{size-words, valid-taken}
 use Rattle.table.specs.Tables.{rowAt}
 use Rattle.table.proofs.Tables.{row-is, known-row}
 use Rattle.command.specs.View.{sizeAt}
@@ -39,7 +39,7 @@ read-words l at (w ∷ ws) tail e =
     ap₂ {C = List ℕ} (λ x xs. x ∷ xs) first (read-words l (suc at) ws tail rest)
 
 pub stands : (l : List ℕ) (at : ℕ) (c : Command) (tail : List ℕ) → at < length l → Valid c → drop at l ≡ words c ++ tail → Stands l at c tail
-unfolding commandSize commandAt
+unfolding commandAt
 stands l at c tail h v e =
     let d : getD l at 0 ∷ drop (suc at) l ≡ firstWord (c .row .id) (c .header) ∷ (c .rest ++ tail) = sym (drop-cons l at 0 h) ∙ e in
     let first : getD l at 0 ≡ firstWord (c .row .id) (c .header) = cc in
@@ -52,7 +52,7 @@ stands l at c tail h v e =
       valid = v;
       id-is = id′;
       row-at = row′;
-      size-is = rw (id′, v .found, header′, rest) (ap suc (valid-size c tail v));
+      size-is = ap₂ commandSize first rest ∙ size-words c tail v;
       command-is = rw (row′, header′, rest) (valid-taken c tail v);
       own = read-words l at (words c) tail e;
       inside = omega (arith, length-drop (suc at) l, ap length rest, length-append (c .rest) tail);

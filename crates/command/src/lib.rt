@@ -129,7 +129,7 @@ pub fn decode_single(masks: &Masks, list: &[u32], at: usize, id: u8, row: u8) ->
     ensures { λ r. ⌜ r ≡ decodedAt (now (list .entry)) at ⌝ }
 {
     let header = words::header_of(words::fetch(list, at));
-    if faults::undefined(header, masks::mask(masks, row, 0)) {
+    if masks::undefined(header, masks::mask(masks, row, 0)) {
         return refused_fault(at, faults::first_fault(row, id, header, 0, 0, 0));
     }
     single_command(row)

@@ -1,20 +1,19 @@
 -- The first fault of a command, from the masks of its row.
-use Prim.Native.Nat.{ℕ, zero, suc, _-_, _/_, _%_, _^_, _≤_}
-use native.Mathlib.Nat.{pow-suc}
+use Prim.Native.Nat.{ℕ, _-_, _≤_}
 use native.Mathlib.Omega.{arith}
 use mathlib.Core.Path.{_≡_, refl, ap, sym, _∙_}
 use mathlib.Core.Bool.{Bool, true, false, cond, not, _||_}
 use mathlib.Core.List.{List, [], _∷_}
-use lib.Dec.{eqb, ltb}
-use lib.Pow.{pow-pos}
-use borrow.Author.Tests.{le-leb}
+use lib.Dec.{eqb}
 use lib.ListN.{length, take}
 use Rattle.rules.specs.declared.Refusal.{Refusal}
-use Rattle.rules.specs.Word.{lowest, undefined}
+use Rattle.rules.specs.Word.{undefined}
 use Rattle.rules.specs.Table.{Row}
 use Rattle.rules.specs.Values.{refusal, Fault, undefinedFaults, valueFaults, faults}
 use Rattle.rules.specs.Decode.{Decoded, bad, firstFault}
-use Rattle.theory.proofs.Numbers.{AllProper, not-zero}
+use Rattle.theory.proofs.Numbers.{Proper, not-zero}
+use Rattle.theory.proofs.Lowest.{all-ones-defined}
+use Rattle.theory.proofs.Refusals.{OfFaults}
 use Rattle.table.specs.declared.Group.{Group}
 use Rattle.table.specs.Ids.{groupId}
 use Rattle.table.specs.Tables.{more, rowNumber, rowAt, maskOf, maskAt}
@@ -22,21 +21,6 @@ use Rattle.table.proofs.Tables.{Known, ruled}
 use Rattle.values.specs.declared.Faults.{Faults}
 use Rattle.values.specs.First.{firstRefusal, found, noRefusal, firstOf}
 use Rattle.faults.specs.Faults.{unlessDefined, firstUndefined, own, anyUndefined}
-
--- every bit is defined under the mask of all bits
-ones : (k w : ℕ) → lowest k w (2 ^ k - 1) ≡ k
-unfolding lowest
-ones zero w = refl
-ones (suc k) w =
-    let p = pow-pos k in
-    let q = pow-suc 2 k in
-    let half : (2 ^ suc k - 1) / 2 ≡ 2 ^ k - 1 = omega arith in
-    let odd : (2 ^ suc k - 1) % 2 ≡ 1 = omega arith in
-    rw (half, odd, le-leb (w % 2) 1 (omega arith)) (ap suc (ones k (w / 2)))
-
-all-defined : (w : ℕ) → undefined w 0xFFFFFFFF ≡ false
-unfolding undefined
-all-defined w = ap (λ (k : ℕ). ltb k 32) (ones 32 w)
 
 no-case : {A : Type 0} (a b c d : Bool) (w x y z e : A) → ((a || b) || (c || d)) ≡ false → cond a w (cond b x (cond c y (cond d z e))) ≡ e
 no-case true _ _ _ w x y z e f = let u : _≡_ {A = Bool} true false = f in cc
@@ -62,7 +46,7 @@ module _ (r : Row) (h a b c : ℕ) (m₀ m₁ m₂ m₃ : ℕ) where
       let e₁ : m₁ ≡ 0xFFFFFFFF = cc in
       let e₂ : m₂ ≡ 0xFFFFFFFF = cc in
       let e₃ : m₃ ≡ 0xFFFFFFFF = cc in
-      rw (em, e₀, e₁, e₂, e₃, all-defined a, all-defined b, all-defined c, unruled-values (r .id) h (a ∷ b ∷ c ∷ []) (n refl), unruled-values (r .id) h [] (n refl))
+      rw (em, e₀, e₁, e₂, e₃, all-ones-defined a, all-ones-defined b, all-ones-defined c, unruled-values (r .id) h (a ∷ b ∷ c ∷ []) (n refl), unruled-values (r .id) h [] (n refl))
   by-masks (x ∷ []) em e true l n = absurd (omega arith)
   by-masks (x ∷ []) em e false l n = absurd (omega arith)
   by-masks (x ∷ y ∷ []) em e true l n = absurd (omega arith)
@@ -119,7 +103,7 @@ single-fault id h k f =
     rw (m, no-words 1 (rowAt id .more), unruled-values (rowAt id .id) h [] (ap ruled (k .own-id) ∙ k .one-word f))
 
 -- the first fault, and what stands behind the faults
-pub first-fault : (m : ℕ) (fs : List Fault) (d : Decoded) → AllProper m fs
+pub first-fault : (m : ℕ) (fs : List Fault) (d : Decoded) → OfFaults (Proper m) fs
     → firstFault fs d ≡ cond (eqb (firstRefusal fs .number) 0) d (bad (firstRefusal fs))
 first-fault m [] d p = refl
 first-fault m (f ∷ fs) d p =
@@ -130,7 +114,7 @@ first-fault m (f ∷ fs) d p =
     ]) refl
 
 -- it stands near the command's first word
-pub first-near : (m : ℕ) (fs : List Fault) → AllProper m fs → firstRefusal fs .word ≤ m
+pub first-near : (m : ℕ) (fs : List Fault) → OfFaults (Proper m) fs → firstRefusal fs .word ≤ m
 first-near m [] p = omega arith
 first-near m (f ∷ fs) p =
     (elim (f .found) as (λ t. f .found ≡ t → cond t (f .why) (firstRefusal fs) .word ≤ m) [

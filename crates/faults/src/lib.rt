@@ -8,45 +8,23 @@ ghost use mathlib.Core.Path.{_≡_};
 ghost use mathlib.Core.Bool.{cond};
 ghost use mathlib.Core.List.{[], _∷_};
 ghost use Prim.Native.Nat.{_<_};
-ghost use Rattle.rules.specs.Word.{lowestUndefined, undefined};
-ghost use Rattle.rules.specs.Values.{refusal, undefinedBit, valueFaults, faults};
+ghost use Rattle.rules.specs.Values.{refusal, valueFaults, faults};
 ghost use Rattle.table.specs.Tables.{rowCount, rowNumber, rowAt, maskTable, more};
 ghost use Rattle.values.specs.First.{firstRefusal, found, noRefusal, firstOf};
 ghost use Rattle.faults.specs.Faults.{unlessDefined, firstUndefined, own, anyUndefined};
 
 // ---- undefined bits
 
-// A bit is set in the word that the mask does not define.
-pub fn undefined(word: u32, mask: u32) -> bool
-    ensures { λ r. ⌜ r ≡ undefined word mask ⌝ }
-{
-    word & !mask != 0
-}
-
-// The lowest such bit, 32 where there is none.
-fn lowest_undefined(word: u32, mask: u32) -> u32
-    ensures { λ r. ⌜ r ≡ lowestUndefined word mask ⌝ }
-{
-    u32::trailing_zeros(word & !mask)
-}
-
-// Refusal 6, of a word with an undefined bit.
-fn undefined_bit(at: usize, word: u32, mask: u32) -> Refusal
-    ensures { λ r. ⌜ r ≡ undefinedBit at word mask ⌝ }
-{
-    Refusal {
-        number: 6,
-        word: at,
-        bit: lowest_undefined(word, mask),
-    }
-}
-
-// The same where the word has one, else the next refusal.
+// Refusal 6 of a word with an undefined bit, else the next refusal.
 fn unless_defined(at: usize, word: u32, mask: u32, next: Refusal) -> Refusal
     ensures { λ r. ⌜ r ≡ unlessDefined at word mask next ⌝ }
 {
-    if undefined(word, mask) {
-        return undefined_bit(at, word, mask);
+    if masks::undefined(word, mask) {
+        return Refusal {
+            number: 6,
+            word: at,
+            bit: masks::lowest_undefined(word, mask),
+        };
     }
     next
 }
@@ -56,10 +34,10 @@ pub fn undefined_bits(masks: &Masks, row: u8, g: Group) -> bool
     requires { ⌜ (now masks ≡ maskTable) × (row < rowCount) ⌝ }
     ensures { λ r. ⌜ r ≡ anyUndefined row g ⌝ }
 {
-    let a = undefined(g.header, masks::mask(masks, row, 0));
-    let b = undefined(g.second, masks::mask(masks, row, 1));
-    let c = undefined(g.third, masks::mask(masks, row, 2));
-    let d = undefined(g.fourth, masks::mask(masks, row, 3));
+    let a = masks::undefined(g.header, masks::mask(masks, row, 0));
+    let b = masks::undefined(g.second, masks::mask(masks, row, 1));
+    let c = masks::undefined(g.third, masks::mask(masks, row, 2));
+    let d = masks::undefined(g.fourth, masks::mask(masks, row, 3));
     (a | b) | (c | d)
 }
 

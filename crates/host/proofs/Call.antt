@@ -14,14 +14,14 @@ use Rattle.rules.specs.Form.{form}
 use Rattle.rules.specs.declared.Refusal.{Refusal}
 use Rattle.rules.specs.declared.Answer.{Answer}
 use Rattle.rules.specs.Values.{refusal}
-use Rattle.rules.specs.Answer.{Outcome, answerWords, refusedAnswer, accept, fitting, room, writeParsed, reading, normalising, measuring}
+use Rattle.rules.specs.Answer.{Outcome, answerWords, refusedAnswer, accept, fitting, writeParsed, reading, normalising, measuring}
 use Rattle.rules.specs.Pci.{pairsAll, values, parsePairs, toPci, fromPci}
 use Rattle.rules.specs.Session.{SessionOutcome, sessionWords, readingScenes}
-use Rattle.theory.proofs.Numbers.{RefusesList, parse-refuses}
+use Rattle.theory.proofs.Numbers.{RefusesList, parse-refuses, pairs-refuses}
 use Rattle.theory.proofs.Parse.{parse-accepted}
 use Rattle.theory.proofs.Form.{form-fits}
 use Rattle.theory.proofs.Records.{records-few}
-use Rattle.theory.proofs.Pci.{pairs-length, pairs-carry, pairs-refuses}
+use Rattle.theory.proofs.Pci.{pairs-length, pairs-carry}
 use Rattle.theory.proofs.Counts.{reading-counts}
 use Rattle.theory.proofs.Session.{scenes-sound}
 use Rattle.theory.proofs.Demands.{told-is-enough, told-never-longer}

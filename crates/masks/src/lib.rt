@@ -1,9 +1,12 @@
-// The masks: the defined bits of each word of a command, by the row of the table and the word.
+// The masks: the defined bits of each word of a command, by the row of the table and the word; and the bits of a word that its
+// mask does not define.
 //
 // As the table of rows, the table of masks is made once for a whole list and lent.
+use rules::NO_BIT;
 use table::ROWS;
 ghost use mathlib.Core.Path.{_≡_};
 ghost use Prim.Native.Nat.{_<_};
+ghost use Rattle.rules.specs.Word.{lowestUndefined, undefined, LowestOrNone};
 ghost use Rattle.table.specs.Tables.{rowCount, maskAt, maskTable};
 
 // The table of masks: four words to a row.
@@ -105,4 +108,25 @@ pub fn mask(masks: &Masks, row: u8, word: usize) -> u32
     ensures { λ r. ⌜ r ≡ maskAt row word ⌝ }
 {
     masks[row as usize * 4 + word]
+}
+
+// ---- undefined bits. Callers ask about a first word's header: so "id bits count as defined" (document 02, Ticket 6).
+
+// A bit is set in the word that the mask does not define.
+pub fn undefined(word: u32, mask: u32) -> bool
+    ensures { λ r. ⌜ r ≡ undefined word mask ⌝ }
+{
+    word & !mask != 0
+}
+
+// The lowest such bit, 32 where there is none: "the mask's complement .., one test, and the language's own count of trailing
+// zeros". The test is there for the reader: trailing zeros of 0 are 32.
+pub fn lowest_undefined(word: u32, mask: u32) -> u32
+    ensures { λ r. ⌜ (r ≡ lowestUndefined word mask) × LowestOrNone word mask r ⌝ }
+{
+    let outside = word & !mask;
+    if outside == 0 {
+        return NO_BIT;
+    }
+    u32::trailing_zeros(outside)
 }

@@ -27,7 +27,7 @@ fn decode_single(masks: &Masks, pairs: &[u32], at: usize, id: u8, row: u8) -> De
     ensures { λ r. ⌜ Met (now (pairs .entry)) at r ⌝ }
 {
     let header = words::header_of(pairs::value_at(pairs, at));
-    let undefined = faults::undefined(header, masks::mask(masks, row, 0));
+    let undefined = masks::undefined(header, masks::mask(masks, row, 0));
     if (pairs::address_at(pairs, at) != pairs::address(id, 0)) | undefined {
         return command::refused_fault(at, faults::first_fault(row, id, header, 0, 0, 0));
     }

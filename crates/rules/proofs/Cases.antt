@@ -1,9 +1,10 @@
--- Each case holds: document 01's P1 to P12 and N1 to N4, lists measured, the guide's PCI writes, and sessions.
+-- Each case holds: document 01's P1 to P12 and N1 to N4, lists measured, masks, the guide's PCI writes, and sessions.
 use mathlib.Core.Path.{_≡_, refl}
 use mathlib.Core.Bool.{true}
 use Rattle.rules.specs.Word.{lowest, undefined}
 use Rattle.rules.specs.Table.{table, rowOf, settings, isBase}
 use Rattle.rules.specs.Command.{payload, commandSize}
+use Rattle.rules.specs.Place.{startFrom, wordMask}
 use Rattle.rules.specs.Values.{faults}
 use Rattle.rules.specs.Decode.{decodeRow, decode}
 use Rattle.rules.specs.Walk.{outOfOrder, orderAfter, step, walk, parse}
@@ -14,5 +15,5 @@ use Rattle.rules.specs.Session.{pairCall, turn, readFrom, readingScenes}
 use Rattle.rules.specs.Cases.{every, cases}
 
 pub cases-hold : every cases ≡ true
-unfolding every cases reading normalising measuring toPci fromPci pairCall turn readFrom readingScenes address misplaced parsePairs commandSize parse walk step decode decodeRow faults lowest undefined payload outOfOrder orderAfter rowOf table settings isBase formFrom
+unfolding every cases reading normalising measuring toPci fromPci pairCall turn readFrom readingScenes address misplaced parsePairs commandSize startFrom wordMask parse walk step decode decodeRow faults lowest undefined payload outOfOrder orderAfter rowOf table settings isBase formFrom
 cases-hold = refl

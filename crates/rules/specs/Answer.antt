@@ -1,12 +1,15 @@
 -- The whole answers of the reader, the normaliser and the measurer (document 01, "Verdicts and what stays"; document 02,
 -- Ticket 4).
 use Prim.Native.Nat.{ℕ, _/_}
+use mathlib.Core.Path.{_≡_}
 use mathlib.Core.Bool.{Bool, cond}
 use mathlib.Core.List.{List, [], _∷_, _++_}
 use lib.Dec.{eqb, ltb}
-use lib.ListN.{length, take, drop}
+use lib.ListN.{length, getD, take, drop}
 use Rattle.rules.specs.declared.Answer.{Answer}
+use Rattle.rules.specs.Word.{LowestUndefinedAt}
 use Rattle.rules.specs.Command.{Command, wordsAll}
+use Rattle.rules.specs.Place.{wordMask}
 use Rattle.rules.specs.declared.Refusal.{Refusal}
 use Rattle.rules.specs.Values.{refusal}
 use Rattle.rules.specs.Walk.{Parsed, refused, accepted, parse}
@@ -40,6 +43,11 @@ refuse f image buffer = record { answer = refusedAnswer f; image = image; buffer
 -- with 6 the bit is one of the word's, and "every other verdict gives 32 there"
 abbrev pub tellsBit : Answer → Bool
 tellsBit a = cond (eqb (a .verdict) 6) (ltb (a .bit) 32) (eqb (a .bit) 32)
+
+-- "With 6, .. the number of the lowest undefined bit set in that word" (document 02, Ticket 2): the list's word at the
+-- position, under its mask
+abbrev pub TellsLowest : List ℕ → Answer → Type 0
+TellsLowest ws a = a .verdict ≡ 6 → LowestUndefinedAt (getD ws (a .position) 0) (wordMask ws (a .position)) (a .bit)
 
 -- 0 at a position with the counts of commands, records and words, and bit 32
 abbrev pub acceptedAnswer : ℕ → ℕ → ℕ → ℕ → Answer

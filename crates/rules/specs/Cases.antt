@@ -1,25 +1,27 @@
 -- Cases P1 to P12 and N1 to N4 (document 01, "Cases on each side", as document 02, Tickets 2 and 3, changes them), lists
--- measured, the guide's own PCI writes, and sessions, in one table.
+-- measured, the masks of a list's words, the guide's own PCI writes, and sessions, in one table.
 use Prim.Native.Nat.{ℕ, zero, suc}
 use mathlib.Core.Bool.{Bool, true, _&&_, _||_}
 use mathlib.Core.List.{List, [], _∷_, _++_}
 use lib.Dec.{eqb}
 use lib.ListN.{length, getD, drop, replicate, set}
 use Rattle.rules.specs.declared.Refusal.{Refusal}
+use Rattle.rules.specs.Place.{wordMask}
 use Rattle.rules.specs.Form.{equal}
 use Rattle.rules.specs.Answer.{answerWords, Outcome, reading, normalising, measuring, written}
 use Rattle.rules.specs.Pci.{toPci, fromPci}
 use Rattle.rules.specs.Session.{sessionWords, readingScenes}
 
 -- what a case says of its list: its refusal, accepted with so many commands, accepted with a word of the new image,
--- accepted with a normal form, measured, accepted with its PCI writes; of its pairs: their refusal; or of the words as a
--- buffer of lists, with a table of them: the numbers told, the records written, and image word 02
+-- accepted with a normal form, measured, its words' masks, accepted with its PCI writes; of its pairs: their refusal; or of the
+-- words as a buffer of lists, with a table of them: the numbers told, the records written, and image word 02
 pub data Want : Type 0 where
   refusedAs : Refusal → Want
   commands : ℕ → Want
   imageWord : ℕ → ℕ → Want
   normalFormIs : List ℕ → Want
   measuredAs : List ℕ → Want
+  masksAre : List ℕ → Want
   writesAre : List ℕ → Want
   pairsRefusedAs : Refusal → Want
   sessionIs : List ℕ → List ℕ → List ℕ → ℕ → Want
@@ -52,6 +54,11 @@ accepts : List ℕ → List ℕ → Bool
 accepts ws image =
     alike (answered (told 0 (length ws) 32)) ws image && eqb (reading ws image buffer .answer .commands) (normalising ws image buffer .answer .commands)
 
+-- the masks of a list's words from position p on
+abbrev masksFrom : List ℕ → ℕ → List ℕ → List ℕ
+masksFrom ws p [] = []
+masksFrom ws p (u ∷ us) = wordMask ws p ∷ masksFrom ws (suc p) us
+
 -- a form is accepted too, and leaves the same image; behind pairs an odd last word is ignored
 holds : List ℕ → List ℕ → Want → Bool
 holds ws image (refusedAs f) = alike (refuses f image) ws image
@@ -61,6 +68,7 @@ holds ws image (normalFormIs us) =
     (accepts ws image && equal (written (normalising ws image buffer)) us)
     && (accepts us image && equal (reading us image buffer .image) (reading ws image buffer .image))
 holds ws image (measuredAs ns) = equal (answerWords (measuring ws image)) ns
+holds ws image (masksAre ms) = equal (masksFrom ws 0 ws) ms
 holds ws image (writesAre ps) =
     (answered (told 0 (length ws) 32) (toPci ws image buffer) && equal (written (toPci ws image buffer)) ps)
     && (answered (told 0 (length ws) 32) (fromPci ps image buffer) && (equal (written (fromPci ps image buffer)) ws
@@ -138,6 +146,9 @@ cases =
     ∷ fromZeros (0x84000000 ∷ 0x10000000 ∷ 0xC000D000 ∷ 0 ∷ []) (refusedAt 15 0)
     -- of several undefined bits the lowest, at the lowest word
     ∷ fromZeros (0x02000010 ∷ 0x88000000 ∷ 0 ∷ 0x80C00000 ∷ 0xFF000000 ∷ []) (refusedAs (told 6 3 22))
+    -- the masks of a reset, a load with its payload, which is data, and a BEGIN
+    ∷ fromZeros (0x01000000 ∷ 0x40000001 ∷ 0 ∷ 0 ∷ 0 ∷ 0x01000002 ∷ 0 ∷ 0 ∷ 0x08000000 ∷ 0x08000000 ∷ 0 ∷ 0 ∷ 0 ∷ [])
+    (masksAre (0xFF000714 ∷ 0xFFF7FDFF ∷ replicate 7 0xFFFFFFFF ++ (0xFFFFFFFF ∷ 0x803FFFFF ∷ 0x0FFFFFFF ∷ 0 ∷ [])))
     -- no room, for records or for a form
     ∷ fromZeros (0x02000010 ∷ nullPrimitives 5) (refusedAt 11 21)
     -- the same list measured; one with settings behind its work; and a refused one, whose length is 0

@@ -1,6 +1,7 @@
 pub mod Word
 pub mod Table
 pub mod Command
+pub mod Place
 pub mod Values
 pub mod Decode
 pub mod Image

@@ -1,5 +1,7 @@
--- A word of a list and its fields (document 01, "Words and sizes").
-use Prim.Native.Nat.{ℕ, zero, suc, _+_, _*_, _/_, _%_, _^_}
+-- A word of a list: its fields (document 01, "Words and sizes"), and its bits under a mask (document 02, Ticket 6).
+use Prim.Native.Nat.{ℕ, zero, suc, _+_, _*_, _/_, _%_, _^_, _<_}
+use mathlib.Core.Path.{_≡_}
+use mathlib.Core.Logic.{_⊎_, _↔_}
 use mathlib.Core.Bool.{Bool, cond}
 use lib.Dec.{leb, ltb}
 
@@ -31,3 +33,22 @@ lowestUndefined w mask = lowest 32 w mask
 unfoldable pub undefined : ℕ → ℕ → Bool
 unfolding lowest
 undefined w mask = ltb (lowestUndefined w mask) 32
+
+-- bit k is set in the word and not in the mask
+abbrev pub UndefinedAt : ℕ → ℕ → ℕ → Type 0
+UndefinedAt w mask k = (bits w k 1 ≡ 1) × (bits mask k 1 ≡ 0)
+
+-- bit k is the lowest such bit of a word
+pub record LowestUndefinedAt (w mask k : ℕ) : Type 0 where
+  pub in-word : k < 32
+  pub undefined-here : UndefinedAt w mask k
+  pub none-below : (j : ℕ) → j < k → UndefinedAt w mask j → ⊥
+
+-- a word has no such bit
+abbrev pub AllDefined : ℕ → ℕ → Type 0
+AllDefined w mask = (k : ℕ) → k < 32 → UndefinedAt w mask k → ⊥
+
+-- "for any word and mask: the lowest undefined bit set, or 32 exactly when there is none" (document 02, Ticket 6)
+pub record LowestOrNone (w mask k : ℕ) : Type 0 where
+  pub lowest-or-32 : LowestUndefinedAt w mask k ⊎ (k ≡ 32)
+  pub exactly : (k ≡ 32) ↔ AllDefined w mask

@@ -8,8 +8,9 @@ use mathlib.Core.Bool.{true}
 use mathlib.Core.Logic.{_↔_}
 use mathlib.Core.List.{List, [], _∷_, _++_}
 use lib.ListN.{length, getD, drop, length-append}
-use Rattle.rules.specs.Word.{bits}
+use Rattle.rules.specs.Word.{AllDefined}
 use Rattle.rules.specs.Command.{Command, wordsAll}
+use Rattle.rules.specs.Place.{wordMask}
 use Rattle.rules.specs.Walk.{parse}
 use Rattle.rules.specs.Valid.{Accepted}
 use Rattle.rules.specs.Image.{final, Unset}
@@ -17,10 +18,11 @@ use Rattle.rules.specs.Records.{records, recordWords, withoutPositions}
 use Rattle.rules.specs.Form.{form}
 use Rattle.rules.specs.declared.Answer.{Answer}
 use Rattle.rules.specs.declared.Refusal.{Refusal}
-use Rattle.rules.specs.Answer.{Outcome, refusedAnswer, refusalOf, tellsBit, refuse, accept, room, reading, normalising, measuring, commandsOf, does, normalForm, written}
+use Rattle.rules.specs.Answer.{Outcome, refusedAnswer, refusalOf, tellsBit, TellsLowest, refuse, accept, room, reading, normalising, measuring, commandsOf, does, normalForm, written}
 use Rattle.rules.specs.Pci.{pairsAll, values, wholePairs, parsePairs, toPci, fromPci}
 use Rattle.rules.specs.Session.{SessionOutcome, opened, left, part, outside, readFrom, readingScenes, Bounded, asSession, SameApplied, firstPairs, nextPair, StopsAt}
 use Rattle.theory.proofs.Parse.{parse-accepted, accepted-parse}
+use Rattle.theory.proofs.Defined.{defined-all}
 use Rattle.theory.proofs.Records.{records-few}
 use Rattle.theory.proofs.Verdict.{written-accept, reads, reading-zero, normalises, normalising-zero}
 use Rattle.theory.proofs.Pci.{values-all, whole-all, whole-values, pairs-length, carries-pairs, pairs-carry, to-pci, to-pci-zero, from-pci, from-pci-zero}
@@ -46,7 +48,7 @@ pub from-pci-refuses : (ps image buffer : List ℕ) → (fromPci ps image buffer
     → fromPci ps image buffer ≡ refuse (refusalOf (fromPci ps image buffer .answer)) image buffer
 from-pci-refuses = laws.from-pci-refuses
 
--- ---- Ticket 2: with 6 a bit of the word, with every other verdict 32
+-- ---- Tickets 2 and 6: with 6 the lowest undefined bit of the word, with every other verdict 32
 
 pub reader-tells-bit : (ws image buffer : List ℕ) → tellsBit (reading ws image buffer .answer) ≡ true
 reader-tells-bit = laws.reading-tells
@@ -60,22 +62,18 @@ to-pci-tells-bit = laws.to-pci-tells
 pub from-pci-tells-bit : (ps image buffer : List ℕ) → tellsBit (fromPci ps image buffer .answer) ≡ true
 from-pci-tells-bit = laws.from-pci-tells
 
--- ".. set in that word": the bit told with 6 is set in the word of the list at the position
-pub reader-bit-is-set : (ws image buffer : List ℕ) → reading ws image buffer .answer .verdict ≡ 6
-    → bits (getD ws (reading ws image buffer .answer .position) 0) (reading ws image buffer .answer .bit) 1 ≡ 1
-reader-bit-is-set = laws.reading-set
+-- "the number of the lowest undefined bit set in that word": the word of the list at the position, under its mask
+pub reader-tells-lowest : (ws image buffer : List ℕ) → TellsLowest ws (reading ws image buffer .answer)
+reader-tells-lowest = laws.reading-lowest
 
-pub normaliser-bit-is-set : (ws image buffer : List ℕ) → normalising ws image buffer .answer .verdict ≡ 6
-    → bits (getD ws (normalising ws image buffer .answer .position) 0) (normalising ws image buffer .answer .bit) 1 ≡ 1
-normaliser-bit-is-set = laws.normalising-set
+pub normaliser-tells-lowest : (ws image buffer : List ℕ) → TellsLowest ws (normalising ws image buffer .answer)
+normaliser-tells-lowest = laws.normalising-lowest
 
-pub to-pci-bit-is-set : (ws image buffer : List ℕ) → toPci ws image buffer .answer .verdict ≡ 6
-    → bits (getD ws (toPci ws image buffer .answer .position) 0) (toPci ws image buffer .answer .bit) 1 ≡ 1
-to-pci-bit-is-set = laws.to-pci-set
+pub to-pci-tells-lowest : (ws image buffer : List ℕ) → TellsLowest ws (toPci ws image buffer .answer)
+to-pci-tells-lowest = laws.to-pci-lowest
 
-pub from-pci-bit-is-set : (ps image buffer : List ℕ) → fromPci ps image buffer .answer .verdict ≡ 6
-    → bits (getD (values ps) (fromPci ps image buffer .answer .position) 0) (fromPci ps image buffer .answer .bit) 1 ≡ 1
-from-pci-bit-is-set = laws.from-pci-set
+pub from-pci-tells-lowest : (ps image buffer : List ℕ) → TellsLowest (values ps) (fromPci ps image buffer .answer)
+from-pci-tells-lowest = laws.from-pci-lowest
 
 -- ---- Demand 2
 
@@ -114,6 +112,11 @@ normaliser-accepts-exactly image ws buffer = (
       record { commands = commandsOf (parse image ws); accepted = parse-accepted image ws _ (n .parsed); fits = n .fits },
   λ a. ap (λ (o : Outcome). o .answer .verdict) (normaliser-gives image ws buffer a),
 )
+
+-- "A bit outside its mask must be zero."
+pub accepted-defined : (image ws : List ℕ) (cs : List Command) → Accepted image ws cs → (p : ℕ) → p < length ws → AllDefined (getD ws p 0) (wordMask ws p)
+accepted-defined image ws cs a =
+    subst (λ (l : List ℕ). (p : ℕ) → p < length l → AllDefined (getD l p 0) (wordMask l p)) (sym (a .parses .words-are)) (defined-all cs (a .parses .valid))
 
 -- "each image word that no command sets is as before"
 
@@ -227,8 +230,8 @@ module _ (ws image : List ℕ) where
   pub measurer-tells-bit : tellsBit (measuring ws image) ≡ true
   measurer-tells-bit = ap tellsBit (sym told) ∙ normaliser-tells-bit ws image ws
 
-  pub measurer-bit-is-set : measuring ws image .verdict ≡ 6 → bits (getD ws (measuring ws image .position) 0) (measuring ws image .bit) 1 ≡ 1
-  measurer-bit-is-set = subst (λ (a : Answer). a .verdict ≡ 6 → bits (getD ws (a .position) 0) (a .bit) 1 ≡ 1) told (normaliser-bit-is-set ws image ws)
+  pub measurer-tells-lowest : TellsLowest ws (measuring ws image)
+  measurer-tells-lowest = subst (TellsLowest ws) told (normaliser-tells-lowest ws image ws)
 
 -- ---- PCI writes (document 02, Ticket 1)
 
@@ -443,13 +446,12 @@ module _ (ws table image buffer : List ℕ) where
       ap (λ (o : SessionOutcome). refusalOf (o .session .answer)) (t .is)
       ∙ ap (λ (o : Outcome). refusalOf (o .answer)) (call-reads ws _ _ _ _ _ (λ e. n (ap (λ (o : SessionOutcome). o .session .answer .verdict) (t .is) ∙ e)))
 
-  -- so with 6 the bit is set in that list's word at the position
-  pub session-bit-is-set : session .session .answer .verdict ≡ 6
-      → bits (getD (listOf (session .session .lists)) (session .session .answer .position) 0) (session .session .answer .bit) 1 ≡ 1
-  session-bit-is-set e =
+  -- so with 6 the bit is the lowest undefined one of that list's word at the position
+  pub session-tells-lowest : TellsLowest (listOf (session .session .lists)) (session .session .answer)
+  session-tells-lowest e =
       let l : List ℕ = listOf (session .session .lists) in
       let told = refused-by-the-reader (λ z. omega (arith, z, e)) (λ z. omega (arith, z, e)) in
-      subst (λ (f : Refusal). f .number ≡ 6 → bits (getD l (f .word) 0) (f .bit) 1 ≡ 1) (sym told) (reader-bit-is-set l _ _) e
+      subst (λ (f : Refusal). TellsLowest l (refusedAnswer f)) (sym told) (reader-tells-lowest l _ _) e
 
   -- the numbers of the answer
   pub session-bounded : Bounded (session .session)

@@ -3,10 +3,13 @@ pub mod Image
 pub mod Rows
 pub mod Valid
 pub mod Parse
+pub mod Place
+pub mod Lowest
+pub mod Defined
+pub mod Refusals
+pub mod Numbers
 pub mod Differing
 pub mod Form
-pub mod Numbers
-pub mod Bits
 pub mod Verdict
 pub mod Records
 pub mod Reading

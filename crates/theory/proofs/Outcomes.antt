@@ -6,23 +6,23 @@ use mathlib.Core.Bool.{Bool, true, false}
 use mathlib.Core.Logic.{_↔_}
 use mathlib.Core.List.{List, [], _∷_}
 use lib.Dec.{eqb, ltb}
-use borrow.Author.Tests.{eqb-false, ltb-true, ltb-false}
+use borrow.Author.Tests.{eqb-false, ltb-true, ltb-false, not-true}
 use lib.ListN.{length, getD}
 use lib.Seq.{getD-set-other}
-use Rattle.rules.specs.Word.{bits}
 use Rattle.rules.specs.Table.{Kind, setting, plain, keeps, begins}
 use Rattle.rules.specs.Command.{Command, wordsAll}
+use Rattle.rules.specs.declared.Refusal.{Refusal}
 use Rattle.rules.specs.Walk.{Parsed, refused, accepted, parse}
 use Rattle.rules.specs.Image.{leave, apply, final, UnsetBy, Unset}
 use Rattle.rules.specs.Records.{records, recordWords, withoutPositions}
 use Rattle.rules.specs.Effect.{Effect, effect, works}
 use Rattle.rules.specs.Form.{form}
-use Rattle.rules.specs.Answer.{Outcome, refusalOf, tellsBit, refuse, accept, fitting, room, readParsed, writeParsed, measureParsed, reading, normalising, measuring, commandsOf, does, normalForm, written}
+use Rattle.rules.specs.Answer.{Outcome, refusedAnswer, refusalOf, tellsBit, TellsLowest, refuse, accept, fitting, room, readParsed, writeParsed, measureParsed, reading, normalising, measuring, commandsOf, does, normalForm, written}
 use Rattle.rules.specs.Pci.{pairsAll, values, parsePairs, toPci, fromPci}
 use Rattle.rules.specs.Valid.{AllValid}
-use Rattle.theory.proofs.Numbers.{not-zero, not-eleven, not-twenty, RefusesList, parse-refuses}
-use Rattle.theory.proofs.Bits.{SetParsed, other, parse-set, pairs-set}
-use Rattle.theory.proofs.Pci.{pairs-refuses}
+use Rattle.theory.proofs.Bools.{neither}
+use Rattle.theory.proofs.Numbers.{not-zero, not-eleven, not-twenty, RefusesList, parse-refuses, pairs-refuses}
+use Rattle.theory.proofs.Refusals.{OfRefusals, OfParsed, of-parse, of-pairs}
 use Rattle.theory.proofs.Parse.{parse-accepted}
 use Rattle.theory.proofs.Differing.{sets-outside}
 use Rattle.theory.proofs.Form.{form-accepted, form-fits, form-same, same-form, same-effect, normal-again}
@@ -120,37 +120,49 @@ pub from-pci-tells : (ps image buffer : List ℕ) → Tells (fromPci ps image bu
 unfolding fromPci
 from-pci-tells ps image buffer = write-tells (λ cs. values ps) (values ps) image buffer (parsePairs image ps) (pairs-refuses image ps)
 
--- with 6 it is set in the word of the list at the position
-abbrev BitSet : List ℕ → Outcome → Type 0
-BitSet l o = o .answer .verdict ≡ 6 → bits (getD l (o .answer .position) 0) (o .answer .bit) 1 ≡ 1
+-- with 6 it is the lowest undefined one of the list's word at the position
 
-fitting-set : (small : Bool) (ws image buffer l : List ℕ) (o : Outcome) → eqb (o .answer .verdict) 6 ≡ false → BitSet l (fitting small ws image buffer o)
-fitting-set true ws image buffer l o e = other l 11 (length ws) refl
-fitting-set false ws image buffer l o e = λ six. absurd (eqb-false _ 6 e six)
+abbrev LowestIn : List ℕ → Refusal → Type 0
+LowestIn l f = TellsLowest l (refusedAnswer f)
 
-read-set : (ws image buffer l : List ℕ) (x : Parsed) → SetParsed l x → BitSet l (readParsed ws image buffer x)
-read-set ws image buffer l (refused f) s = s
-read-set ws image buffer l (accepted cs) s = fitting-set (ltb (room buffer) (length (records 0 cs))) ws image buffer l _ refl
+lowest-in : (l : List ℕ) → OfRefusals (LowestIn l) l
+lowest-in l = record {
+  others = λ n p o near e. absurd (eqb-false n 6 (neither (eqb n 6) _ (not-true _ o) .0) e);
+  six = λ p b near lowest e. lowest;
+}
 
-write-set : (made : List Command → List ℕ) (ws image buffer l : List ℕ) (x : Parsed) → SetParsed l x → BitSet l (writeParsed made ws image buffer x)
-write-set made ws image buffer l (refused f) s = s
-write-set made ws image buffer l (accepted cs) s = fitting-set (ltb (length buffer) (length (made cs))) ws image buffer l _ refl
+fitting-lowest : (small : Bool) (ws image buffer l : List ℕ) (o : Outcome) → o .answer .verdict ≡ 0 → TellsLowest l (fitting small ws image buffer o .answer)
+fitting-lowest true ws image buffer l o z e = let f : _≡_ {A = ℕ} 11 6 = e in absurd (omega arith)
+fitting-lowest false ws image buffer l o z e = absurd (omega (arith, z, e))
 
-pub reading-set : (ws image buffer : List ℕ) → BitSet ws (reading ws image buffer)
+read-lowest : (ws image buffer l : List ℕ) (x : Parsed) → OfParsed (LowestIn l) x → TellsLowest l (readParsed ws image buffer x .answer)
+read-lowest ws image buffer l (refused f) s = s
+read-lowest ws image buffer l (accepted cs) s = fitting-lowest (ltb (room buffer) (length (records 0 cs))) ws image buffer l _ refl
+
+write-lowest : (made : List Command → List ℕ) (ws image buffer l : List ℕ) (x : Parsed) → OfParsed (LowestIn l) x
+    → TellsLowest l (writeParsed made ws image buffer x .answer)
+write-lowest made ws image buffer l (refused f) s = s
+write-lowest made ws image buffer l (accepted cs) s = fitting-lowest (ltb (length buffer) (length (made cs))) ws image buffer l _ refl
+
+parse-lowest : (image ws : List ℕ) → OfParsed (LowestIn ws) (parse image ws)
+parse-lowest image ws = of-parse (LowestIn ws) ws (lowest-in ws) image
+
+pub reading-lowest : (ws image buffer : List ℕ) → TellsLowest ws (reading ws image buffer .answer)
 unfolding reading
-reading-set ws image buffer = read-set ws image buffer ws (parse image ws) (parse-set image ws)
+reading-lowest ws image buffer = read-lowest ws image buffer ws (parse image ws) (parse-lowest image ws)
 
-pub normalising-set : (ws image buffer : List ℕ) → BitSet ws (normalising ws image buffer)
+pub normalising-lowest : (ws image buffer : List ℕ) → TellsLowest ws (normalising ws image buffer .answer)
 unfolding normalising
-normalising-set ws image buffer = write-set (λ cs. wordsAll (form image cs)) ws image buffer ws (parse image ws) (parse-set image ws)
+normalising-lowest ws image buffer = write-lowest (λ cs. wordsAll (form image cs)) ws image buffer ws (parse image ws) (parse-lowest image ws)
 
-pub to-pci-set : (ws image buffer : List ℕ) → BitSet ws (toPci ws image buffer)
+pub to-pci-lowest : (ws image buffer : List ℕ) → TellsLowest ws (toPci ws image buffer .answer)
 unfolding toPci
-to-pci-set ws image buffer = write-set pairsAll ws image buffer ws (parse image ws) (parse-set image ws)
+to-pci-lowest ws image buffer = write-lowest pairsAll ws image buffer ws (parse image ws) (parse-lowest image ws)
 
-pub from-pci-set : (ps image buffer : List ℕ) → BitSet (values ps) (fromPci ps image buffer)
+pub from-pci-lowest : (ps image buffer : List ℕ) → TellsLowest (values ps) (fromPci ps image buffer .answer)
 unfolding fromPci
-from-pci-set ps image buffer = write-set (λ cs. values ps) (values ps) image buffer (values ps) (parsePairs image ps) (pairs-set image ps)
+from-pci-lowest ps image buffer =
+    write-lowest (λ cs. values ps) (values ps) image buffer (values ps) (parsePairs image ps) (of-pairs (LowestIn (values ps)) image ps (lowest-in (values ps)))
 
 -- ---- words that no command sets
 

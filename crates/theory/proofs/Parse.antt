@@ -13,7 +13,7 @@ use borrow.Author.Tests.{eqb-true, eq-eqb, not-false, ltb-false, le-ltb}
 use lib.ListN.{length, take, drop, take-append-drop}
 use Rattle.rules.specs.Word.{idOf, headerOf, firstWord}
 use Rattle.rules.specs.Table.{Row, table, find, rowOf}
-use Rattle.rules.specs.Command.{Command, wordsAll, restSize}
+use Rattle.rules.specs.Command.{Command, wordsAll, restSize, sizeOf, commandSize}
 use Rattle.rules.specs.Decode.{Decoded, bad, good, decodeKnown, decode}
 use Rattle.rules.specs.Walk.{State, start, outOfOrder, next, Step, stop, took, inOrder, stepDecoded, step, Parsed, refused, accepted, andThen, onward, walk, sized, parse}
 use Rattle.theory.proofs.Rows.{found-step}
@@ -37,10 +37,12 @@ pub record Read (w : ℕ) (ws : List ℕ) (c : Command) : Type 0 where
   pub first : w ≡ firstWord (c .row .id) (c .header)
   pub enough : length (c .rest) ≤ length ws
   pub rest-is : take (length (c .rest)) ws ≡ c .rest
+  pub size : commandSize w ws ≡ suc (length (c .rest))
   pub valid : Valid c
 
 module _ (w : ℕ) (ws : List ℕ) (c : Command) where
   known-read : (x : Option Row) → rowOf (idOf w) ≡ x → decodeKnown w ws x ≡ good c → Read w ws c
+  unfolding commandSize
   known-read none er e = let z : _≡_ {A = ℕ} 0 1 = cc in absurd (omega arith)
   known-read (some r) er e =
       let p = passed r (headerOf w) ws c e in
@@ -51,6 +53,7 @@ module _ (w : ℕ) (ws : List ℕ) (c : Command) where
         first = sym (split w 24) ∙ ap₂ (λ (i h : ℕ). firstWord i h) (sym ei ∙ ap (λ (x : Command). x .row .id) (p .is)) (ap (λ (x : Command). x .header) (p .is));
         enough = omega (arith, p .enough);
         rest-is = ap (λ (j : ℕ). take j ws) n ∙ rest;
+        size = ap (sizeOf (headerOf w) ws) er ∙ ap suc (sym n);
         valid = passed-valid r (headerOf w) ws c p (ap rowOf ei ∙ er) (mod-lt w (pow-pos 24));
       }
 

@@ -2,11 +2,11 @@
 use Prim.Native.Nat.{ℕ, zero, suc, _+_, _*_, _-_, _≤_}
 use native.Mathlib.Omega.{arith}
 use mathlib.Core.Path.{_≡_, refl, ap, ap₂, sym, _∙_, subst}
-use mathlib.Core.Bool.{Bool, true, false, cond, not}
+use mathlib.Core.Bool.{true, false, cond, not}
 use mathlib.Core.List.{List, [], _∷_, _++_}
 use mathlib.Core.Option.{Option, none, some}
 use lib.Dec.{eqb, ltb}
-use lib.Pow.{high, low}
+use lib.Pow.{high}
 use borrow.Author.Tests.{eqb-true, eq-eqb}
 use lib.ListN.{length, getD, take, drop, length-append}
 use lib.Seq.{take-append-seam, drop-append-seam}
@@ -18,9 +18,9 @@ use Rattle.rules.specs.Walk.{Parsed, accepted, start, walk, parse}
 use Rattle.rules.specs.Valid.{Valid, AllValid}
 use Rattle.rules.specs.Answer.{commandsOf}
 use Rattle.rules.specs.Pci.{address, pairsFrom, commandPairs, pairsAll, values, wholePairs, Inside, begun, further, ended, expecting, misplaced, outside, unless, parsePairs, toPci, fromPci}
-use Rattle.theory.proofs.Valid.{valid-size}
+use Rattle.theory.proofs.Valid.{size-words}
 use Rattle.theory.proofs.Parse.{parse-accepted, sized-accepted}
-use Rattle.theory.proofs.Numbers.{Proper, RefusesList, sized-refuses, walk-refuses, parse-refuses}
+use Rattle.theory.proofs.Numbers.{parse-refuses, pairs-refuses}
 use Rattle.theory.proofs.Verdict.{Writes, writes, writes-zero}
 
 -- ---- the pairs of a list carry it
@@ -51,11 +51,6 @@ whole-all [] = refl
 whole-all (c ∷ cs) = whole-from (c .row .id) 0 (words c) (pairsAll cs) ∙ ap (λ (l : List ℕ). commandPairs c ++ l) (whole-all cs)
 
 -- ---- and are where they are expected
-
--- a valid command's first word says its size, whatever follows its words
-size-words : (c : Command) (tail : List ℕ) → Valid c → commandSize (firstWord (c .row .id) (c .header)) (c .rest ++ tail) ≡ suc (length (c .rest))
-unfolding commandSize
-size-words c tail v = rw (high (c .row .id) 24 (v .small), v .found, low (c .row .id) 24 (v .small)) (ap suc (valid-size c tail v))
 
 -- between two commands it is all one in which the pairs were
 pub between : (o o′ : Inside) (p : ℕ) (ps : List ℕ) → misplaced o 0 p ps ≡ misplaced o′ 0 p ps
@@ -184,40 +179,6 @@ pub carries-pairs : (image ps : List ℕ) (cs : List Command) → Carries image 
 carries-pairs image ps cs k =
     let v = parse-accepted image (values ps) cs (k .parsed) .parses .valid in
     placed-parse image ps (sym (whole-placed outside 0 0 ps) ∙ ap (misplaced outside 0 0) (k .pairs-are) ∙ placed-all 0 cs v) ∙ k .parsed
-
--- no refusal of pairs has number 0 or a bit, and none stands far behind them
-abbrev RefusesPair : ℕ → Option Refusal → Type 0
-RefusesPair m none = Unit {0}
-RefusesPair m (some f) = Proper m f
-
-ended-refuses : (m : ℕ) (o : Inside) (left : ℕ) → o .first ≤ m → RefusesPair m (ended o left)
-ended-refuses m o zero h = tt
-ended-refuses m o (suc left) h = record { number = refl; near = h; bit = refl }
-
-expecting-refuses : (m : ℕ) (b : Bool) (p : ℕ) (later : Option Refusal) → p ≤ m → RefusesPair m later → RefusesPair m (cond b later (some (refusal 13 p)))
-expecting-refuses m true p later h r = r
-expecting-refuses m false p later h r = record { number = refl; near = h; bit = refl }
-
-misplaced-refuses : (m : ℕ) (o : Inside) (left p : ℕ) (ps : List ℕ) → o .first ≤ m → p + length (values ps) ≤ m → RefusesPair m (misplaced o left p ps)
-unfolding misplaced
-misplaced-refuses m o left p [] f h = ended-refuses m o left f
-misplaced-refuses m o left p (a ∷ []) f h = ended-refuses m o left f
-misplaced-refuses m o (suc left) p (a ∷ v ∷ ps) f h =
-    expecting-refuses m (eqb a (address (o .id) (o .word))) p _ (omega arith) (misplaced-refuses m (further o) left (suc p) ps f (omega arith))
-misplaced-refuses m o zero p (a ∷ v ∷ ps) f h =
-    expecting-refuses m (eqb a (address (idOf v) 0)) p _ (omega arith)
-    (misplaced-refuses m (begun p v) (commandSize v (values ps) - 1) (suc p) ps (omega arith) (omega arith))
-
-unless-refuses : (m : ℕ) (x : Option Refusal) (y : Parsed) → RefusesPair m x → RefusesList m y → RefusesList m (unless x y)
-unless-refuses m (some f) y p q = p
-unless-refuses m none y p q = q
-
-pub pairs-refuses : (image ps : List ℕ) → RefusesList 4098 (parsePairs image ps)
-unfolding parsePairs
-pairs-refuses image ps =
-    sized-refuses (length (values ps)) (not (eqb (length image) 256)) (unless (misplaced outside 0 0 ps) (walk (start image) 0 0 (values ps)))
-    (λ h. unless-refuses 4098 (misplaced outside 0 0 ps) (walk (start image) 0 0 (values ps))
-    (misplaced-refuses 4098 outside 0 0 ps (omega arith) (omega arith)) (walk-refuses 4098 (start image) 0 0 (values ps) (omega arith)))
 
 -- ---- the answers
 

@@ -1,5 +1,5 @@
 -- Facts of the table of commands, each one test over the whole table.
-use Prim.Native.Nat.{ℕ, _+_, _≤_, _<_}
+use Prim.Native.Nat.{ℕ, _+_, _^_, _≤_, _<_}
 use native.Mathlib.Omega.{arith}
 use mathlib.Core.Path.{_≡_, refl, ap, sym, _∙_}
 use mathlib.Core.Bool.{Bool, true, false, cond, not, _&&_, _||_}
@@ -35,6 +35,14 @@ byteId r = ltb (r .id) 256
 pub row-small : (i : ℕ) (r : Row) → rowOf i ≡ some r → r .id < 256
 unfolding byteId rowOf table
 row-small i r e = ltb-true _ _ (found-passes byteId table i r refl e)
+
+-- the mask of a header has no bit of the id
+headerMask : Row → Bool
+headerMask r = ltb (r .mask) (2 ^ 24)
+
+pub row-mask : (i : ℕ) (r : Row) → rowOf i ≡ some r → r .mask < 2 ^ 24
+unfolding headerMask rowOf table
+row-mask i r e = ltb-true _ _ (found-passes headerMask table i r refl e)
 
 -- a row of the table that is a setting
 pub record Setting (r : Row) : Type 0 where

@@ -1,16 +1,18 @@
 -- A command passes refusals 3 to 9 exactly where it is valid.
-use Prim.Native.Nat.{ℕ, _+_, _^_, _≤_, _<_}
+use Prim.Native.Nat.{ℕ, suc, _+_, _^_, _≤_, _<_}
 use native.Mathlib.Omega.{arith}
 use mathlib.Core.Path.{_≡_, refl, ap, sym, _∙_, subst}
 use mathlib.Core.Bool.{Bool, true, false, cond}
 use mathlib.Core.List.{List, [], _∷_, _++_}
 use mathlib.Core.Option.{some}
 use lib.Dec.{ltb}
+use lib.Pow.{high, low}
 use borrow.Author.Tests.{ltb-false, le-ltb}
 use lib.ListN.{length, take, length-append}
 use lib.Seq.{take-take, length-take-le, take-append-le, take-append-seam}
+use Rattle.rules.specs.Word.{firstWord}
 use Rattle.rules.specs.Table.{setting, Row, rowOf}
-use Rattle.rules.specs.Command.{Command, payload, ownSize, restSize}
+use Rattle.rules.specs.Command.{Command, payload, ownSize, restSize, commandSize}
 use Rattle.rules.specs.declared.Refusal.{Refusal}
 use Rattle.rules.specs.Values.{refusal, Fault, faults}
 use Rattle.rules.specs.Decode.{Decoded, bad, good, firstFault, decodeRow}
@@ -85,6 +87,11 @@ module _ (c : Command) (tail : List ℕ) (v : Valid c) where
 
   pub valid-size : restSize (c .row) (c .header) (c .rest ++ tail) ≡ length (c .rest)
   valid-size = size-cong (c .row) (c .header) (c .rest ++ tail) (c .rest) own ∙ sym (v .size)
+
+  -- the first word says so
+  pub size-words : commandSize (firstWord (c .row .id) (c .header)) (c .rest ++ tail) ≡ suc (length (c .rest))
+  unfolding commandSize
+  size-words = rw (high (c .row .id) 24 (v .small), v .found, low (c .row .id) 24 (v .small)) (ap suc valid-size)
 
   pub valid-taken : taken (c .row) (c .header) (c .rest ++ tail) ≡ c
   valid-taken =

@@ -15,7 +15,7 @@ use Rattle.format.proofs.Lengths.{narrow, row-length, formatted-length}
 use Rattle.names.specs.Names.{commands, refusals, refusalRow}
 use Rattle.lines.specs.Lines.{countsLine}
 use Rattle.lines.proofs.Lengths.{counts-length, refused-length}
-use Rattle.verdict.specs.Start.{startOf}
+use Rattle.rules.specs.Place.{startOf}
 use Rattle.verdict.specs.Verdict.{imageLine, addressLine, placeLines, bitLine, whyLine, refusalText, verdictText}
 
 -- a name has at most 21 bytes with its id, and the row of a refusal 160 with its number

@@ -2,28 +2,18 @@
 use Prim.Native.Nat.{ℕ, zero, suc, _+_, _-_, _≤_, _<_}
 use native.Mathlib.Omega.{arith}
 use mathlib.Core.Path.{_≡_, refl, _∙_}
-use mathlib.Core.Bool.{true, false, cond}
+use mathlib.Core.Bool.{true, false}
 use mathlib.Core.List.{List, [], _∷_}
-use lib.Dec.{eqb, ltb}
+use lib.Dec.{ltb}
 use lib.ListN.{length, drop, length-drop}
 use lib.Seq.{drop-cons, drop-drop}
-use borrow.Author.Tests.{ltb-true, ltb-false, eq-eqb, ne-eqb, eqb-false}
+use borrow.Author.Tests.{ltb-true, ltb-false, eq-eqb, ne-eqb}
 use Rattle.command.specs.View.{sizeAt, Sized}
-use Rattle.verdict.specs.Start.{startFrom}
+use Rattle.rules.specs.Place.{startFrom}
+use Rattle.theory.proofs.Place.{inside}
 
 module _ (p : ℕ) where
-  -- inside the words of a command
-  inside : (first k at : ℕ) (ws : List ℕ) → at ≤ p → p < at + k → p < at + length ws → startFrom p first k at ws ≡ first
-  unfolding startFrom
-  inside first k at [] a b h = refl
-  inside first zero at (w ∷ ws) a b h = absurd (omega arith)
-  inside first (suc k) at (w ∷ ws) a b h =
-      (elim (eqb at p) as (λ t. eqb at p ≡ t → cond t first (startFrom p first k (suc at) ws) ≡ first) [
-        | true ↦ λ e. refl
-        | false ↦ λ e. inside first k (suc at) ws (omega (arith, eqb-false at p e)) (omega arith) (omega arith)
-      ]) refl
-
-  -- behind them
+  -- behind the words of a command
   beyond : (first k at : ℕ) (ws : List ℕ) → at + k ≤ p → startFrom p first k at ws ≡ startFrom p first 0 (at + k) (drop k ws)
   unfolding startFrom
   beyond first zero at ws a = let e : at + 0 ≡ at = omega arith in rw e
@@ -60,8 +50,7 @@ module _ (p : ℕ) where
 
       pub start-inside : p - at < n → from at ≡ at
       start-inside r =
-          step ∙ inside at (sizeAt l at - 1) (suc at) (drop (suc at) l) (omega arith) (omega (arith, size-reaches (omega arith)))
-          (omega (arith, length-drop (suc at) l))
+          step ∙ inside p at (sizeAt l at - 1) (suc at) (drop (suc at) l) (omega arith) (omega (arith, size-reaches (omega arith)))
 
       pub start-beyond : n ≤ p - at → from at ≡ from (at + n)
       start-beyond r =

@@ -10,7 +10,7 @@ use Rattle.text.specs.Text.{ascii}
 use Rattle.format.specs.Format.{formatted}
 use Rattle.names.specs.Names.{commands, refusalRow}
 use Rattle.lines.specs.Lines.{countsLine, refusedLine}
-use Rattle.verdict.specs.Start.{startOf}
+use Rattle.rules.specs.Place.{startOf}
 
 -- with 2, the bytes that were read of an image
 unfoldable pub imageLine : ℕ → ℕ → List ℕ

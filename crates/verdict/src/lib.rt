@@ -6,7 +6,7 @@ ghost use Prim.Native.Nat.{_<_, _≤_};
 ghost use lib.ListN.{length};
 ghost use Rattle.command.specs.View.{Sized};
 ghost use Rattle.text.specs.Puts.{Puts, Bounded};
-ghost use Rattle.verdict.specs.Start.{startOf};
+ghost use Rattle.rules.specs.Place.{startOf};
 ghost use Rattle.verdict.specs.Verdict.{imageLine, addressLine, placeLines, bitLine, whyLine, refusalText, verdictText};
 
 // ---- the command that a word stands in

@@ -50,6 +50,7 @@ fn sets() -> Vec<Set> {
         set("an undefined bit and the next", undefined_and_next(), Every),
         set("an undefined bit and all above", undefined_and_all_above(), OneIn(8)),
         set("every two undefined bits", every_two_undefined(), OneIn(80)),
+        set("one bit or two of a word", every_one_or_two(), Nothing),
         set("undefined bits among defined ones", undefined_among_defined(), Every),
         set("undefined bits in two words", undefined_in_two_words(), Every),
         set("every bit of a load", every_load_bit(), Every),
@@ -254,15 +255,40 @@ pub fn undefined_and_all_above() -> Vec<Vec<u32>> {
     undefined_words().into_iter().flat_map(of_word).collect()
 }
 
-fn every_two_undefined() -> Vec<Vec<u32>> {
-    let mut lists = Vec::new();
-    for undefined in undefined_words() {
-        for (k, low) in undefined.bits.iter().enumerate() {
-            let above = undefined.bits[k + 1..].iter();
-            lists.extend(above.map(|high| undefined.list(low | high)));
+/// A command with one bit or two bits set in a word, below the id.
+pub struct OneOrTwoBits {
+    pub list: Vec<u32>,
+    pub word: usize,
+    /// Those of the bits that are undefined, lowest first.
+    pub undefined: Vec<usize>,
+}
+
+/// Each bit of each word alone, and every two.
+pub fn one_or_two_bits() -> Vec<OneOrTwoBits> {
+    let mut all = Vec::new();
+    for row in table() {
+        for (word, mask) in row.masks.iter().enumerate() {
+            for low in 0..bits_of_word(word) {
+                for high in low..bits_of_word(word) {
+                    let mut list = zeros(row);
+                    list[word] |= 1 << low | 1 << high;
+                    let set = (low..=high).filter(|bit| [low, high].contains(bit));
+                    let undefined = set.filter(|bit| mask.bits >> bit & 1 == 0).collect();
+                    all.push(OneOrTwoBits { list, word, undefined });
+                }
+            }
         }
     }
-    lists
+    all
+}
+
+fn every_one_or_two() -> Vec<Vec<u32>> {
+    one_or_two_bits().into_iter().map(|bits| bits.list).collect()
+}
+
+fn every_two_undefined() -> Vec<Vec<u32>> {
+    let two = one_or_two_bits().into_iter().filter(|bits| bits.undefined.len() == 2);
+    two.map(|bits| bits.list).collect()
 }
 
 /// The lowest undefined bit of a word, the highest, and all of them, with all that are defined.

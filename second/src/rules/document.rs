@@ -1,4 +1,4 @@
-//! Document 01, and Tickets 1 to 5 of document 02, as a value: each part under its sentence.
+//! Document 01, and Tickets 1 to 6 of document 02, as a value: each part under its sentence.
 
 use super::language::{Field, Mask, Quantity, Set, Test, Value};
 use super::scenes::*;
@@ -280,7 +280,7 @@ fn each_command() -> Vec<Check> {
 /// other verdict gives 32 there."
 fn told_bit(terms: &Terms) -> ToldBit {
     ToldBit {
-        // The masks are of the header: the id has no undefined bit.
+        // The masks are of the header: "id bits count as defined".
         header: terms.header,
         of: BitOf::That,
         among: Among::UndefinedAndSet,

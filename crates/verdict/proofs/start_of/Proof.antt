@@ -2,7 +2,7 @@ use Prim.Native.Nat.{_-_, _≤_}
 use native.Mathlib.Omega.{arith}
 use mathlib.Core.Path.{_≡_, refl, sym, _∙_}
 use lib.ListN.{drop}
-use Rattle.verdict.specs.Start.{startFrom, startOf}
+use Rattle.rules.specs.Place.{startFrom, startOf}
 use Rattle.verdict.proofs.Start.{start-here, start-inside, start-beyond}
 use Rattle.verdict.proofs.start_of.Statement.{statement}
 use Rattle.verdict.proofs.start_of.Tie as tie

@@ -5,9 +5,9 @@ use lib.Bits.{bitAnd}
 use lib.Dec.{eqb}
 use borrow.Author.Tests.{lt-ltb, eqb-true, eqb-false}
 use Rattle.rules.specs.Word.{undefined}
-use Rattle.faults.proofs.Masked.{masked, unmasked}
-use Rattle.faults.proofs.undefined.Statement.{statement}
-use Rattle.faults.proofs.undefined.Tie as tie
+use Rattle.masks.proofs.Masked.{masked, unmasked}
+use Rattle.masks.proofs.undefined.Statement.{statement}
+use Rattle.masks.proofs.undefined.Tie as tie
 
 test : (w m : ℕ) → m < 2 ^ 32 → w < 2 ^ 32 → (b : Bool) → eqb (bitAnd w (4294967295 - m)) 0 ≡ b → not b ≡ undefined w m
 unfolding undefined

@@ -1,13 +1,13 @@
--- The mask test: a word and the complement of a mask have no bit in common exactly where no bit lies outside the mask.
+-- The bits of a word under the complement of a mask: the count of trailing zeros is the lowest undefined bit.
 use mathlib.Core.Bool.{Bool, true, false, cond}
 use mathlib.Core.Path.{_≡_, _∙_, ap, sym, refl}
 use Prim.Native.Nat.{ℕ, zero, suc, _+_, _-_, _*_, _/_, _%_, _^_, _<_, min}
 use native.Mathlib.Nat.{pow-suc}
 use native.Mathlib.Omega.{arith}
-use lib.Bits.{bitAnd, and-step}
+use lib.Bits.{bitAnd, and-step, and-le-l}
 use lib.Dec.{leb}
-use lib.Count.{trailingZeros, under}
-use borrow.Author.Tests.{le-leb, leb-true, leb-false}
+use lib.Count.{trailingZeros, under, trailing-of-zero}
+use borrow.Author.Tests.{leb-true, leb-false}
 use Rattle.rules.specs.Word.{lowest}
 
 half : (p m : ℕ) → m < p * 2 → (p * 2 - 1 - m) / 2 ≡ p - 1 - m / 2
@@ -23,38 +23,6 @@ step k w m h =
     let h′ : m < 2 ^ k * 2 = rw pow-suc at h in
     rw (pow-suc 2 k, and-step w (2 ^ k * 2 - 1 - m), half (2 ^ k) m h′, odd (2 ^ k) m h′)
 
-pub masked : (k w m : ℕ) → m < 2 ^ k → bitAnd w (2 ^ k - 1 - m) ≡ 0 → lowest k w m ≡ k
-unfolding lowest
-masked zero w m h e = refl
-masked (suc k) w m h e =
-    let e′ = sym (step k w m h) ∙ e in
-    let h′ : m < 2 ^ k * 2 = rw pow-suc at h in
-    rw (le-leb (w % 2) (m % 2) (omega arith)) (ap suc (masked k (w / 2) (m / 2) (omega arith) (omega arith)))
-
-pub unmasked : (k w m : ℕ) → m < 2 ^ k → w < 2 ^ k → (bitAnd w (2 ^ k - 1 - m) ≡ 0 → ⊥) → lowest k w m < k
-unfolding lowest
-unmasked zero w m h g n =
-    let z : w ≡ 0 = omega arith in
-    absurd (n (rw z))
-unmasked (suc k) w m h g n = go (unmasked k (w / 2) (m / 2)) (leb (w % 2) (m % 2)) refl
-  where
-    h′ : m < 2 ^ k * 2
-    h′ = rw pow-suc at h
-
-    g′ : w < 2 ^ k * 2
-    g′ = rw pow-suc at g
-
-    go : (m / 2 < 2 ^ k → w / 2 < 2 ^ k → (bitAnd (w / 2) (2 ^ k - 1 - m / 2) ≡ 0 → ⊥) → lowest k (w / 2) (m / 2) < k)
-        → (b : Bool) → leb (w % 2) (m % 2) ≡ b → cond b (suc (lowest k (w / 2) (m / 2))) zero < suc k
-    go ih true e =
-        let l = leb-true (w % 2) (m % 2) e in
-        let q = h′ in
-        let r = g′ in
-        let i = ih (omega arith) (omega arith) (λ z. n (step k w m h ∙ omega arith)) in
-        omega arith
-    go ih false e = omega arith
-
--- the lowest undefined bit is the count of trailing zeros of the word under the mask's complement
 pub trailing : (k w m : ℕ) → m < 2 ^ k → trailingZeros k (bitAnd w (2 ^ k - 1 - m)) ≡ lowest k w m
 unfolding lowest trailingZeros
 trailing zero w m h = refl
@@ -80,3 +48,20 @@ trailing (suc k) w m h = go (trailing k (w / 2) (m / 2)) (leb (w % 2) (m % 2)) r
         let s = step k w m h in
         let z : n % 2 ≡ 1 = omega arith in
         rw z
+
+-- none is set
+pub masked : (k w m : ℕ) → m < 2 ^ k → bitAnd w (2 ^ k - 1 - m) ≡ 0 → lowest k w m ≡ k
+masked k w m h e = sym (trailing k w m h) ∙ ap (trailingZeros k) e ∙ trailing-of-zero k
+
+-- a number that is not 0 has a bit
+some-bit : (k n : ℕ) → n < 2 ^ k → (n ≡ 0 → ⊥) → trailingZeros k n < k
+unfolding trailingZeros
+some-bit zero n h ne = absurd (ne (omega arith))
+some-bit (suc k) n h ne = let h′ : n < 2 ^ k * 2 = rw pow-suc at h in go h′ (some-bit k (n / 2)) (n % 2) refl
+  where
+    go : n < 2 ^ k * 2 → (n / 2 < 2 ^ k → (n / 2 ≡ 0 → ⊥) → trailingZeros k (n / 2) < k) → (d : ℕ) → n % 2 ≡ d → under d (trailingZeros k (n / 2)) < suc k
+    go h′ ih zero e = let i = ih (omega arith) (λ z. ne (omega arith)) in omega arith
+    go h′ ih (suc d) e = omega arith
+
+pub unmasked : (k w m : ℕ) → m < 2 ^ k → w < 2 ^ k → (bitAnd w (2 ^ k - 1 - m) ≡ 0 → ⊥) → lowest k w m < k
+unmasked k w m h g ne = rw (← trailing k w m h) (some-bit k (bitAnd w (2 ^ k - 1 - m)) (omega (arith, and-le-l w (2 ^ k - 1 - m))) ne)
