@@ -53,7 +53,7 @@ faults-proper r h own =
 abbrev pub RefusesList : ℕ → Parsed → Type 0
 RefusesList m = OfParsed (Proper m)
 
-proper : (l : List ℕ) → OfRefusals (Proper 4098) l
+pub proper : (l : List ℕ) → OfRefusals (Proper 4098) l
 proper l = record { others = other-proper 4098; six = λ p b near lowest. record { number = refl; near = near; bit = lt-ltb b 32 (lowest .in-word) } }
 
 pub parse-refuses : (image ws : List ℕ) → RefusesList 4098 (parse image ws)

@@ -12,6 +12,7 @@ use lib.Seq.{getD-set-other}
 use Rattle.rules.specs.Table.{Kind, setting, plain, keeps, begins}
 use Rattle.rules.specs.Command.{Command, wordsAll}
 use Rattle.rules.specs.declared.Refusal.{Refusal}
+use Rattle.rules.specs.Values.{refusal}
 use Rattle.rules.specs.Walk.{Parsed, refused, accepted, parse}
 use Rattle.rules.specs.Image.{leave, apply, final, UnsetBy, Unset}
 use Rattle.rules.specs.Records.{records, recordWords, withoutPositions}
@@ -21,8 +22,8 @@ use Rattle.rules.specs.Answer.{Outcome, refusedAnswer, refusalOf, tellsBit, Tel
 use Rattle.rules.specs.Pci.{pairsAll, values, parsePairs, toPci, fromPci}
 use Rattle.rules.specs.Valid.{AllValid}
 use Rattle.theory.proofs.Bools.{neither}
-use Rattle.theory.proofs.Numbers.{not-zero, not-eleven, not-twenty, RefusesList, parse-refuses, pairs-refuses}
-use Rattle.theory.proofs.Refusals.{OfRefusals, OfParsed, of-parse, of-pairs}
+use Rattle.theory.proofs.Numbers.{not-zero, not-eleven, not-twenty, RefusesList, proper, parse-refuses}
+use Rattle.theory.proofs.Refusals.{OfRefusals, weaker, OfParsed, of-parse, of-pairs}
 use Rattle.theory.proofs.Parse.{parse-accepted}
 use Rattle.theory.proofs.Differing.{sets-outside}
 use Rattle.theory.proofs.Form.{form-accepted, form-fits, form-same, same-form, same-effect, normal-again}
@@ -72,97 +73,95 @@ pub from-pci-refuses : (ps image buffer : List ℕ) → (fromPci ps image buffer
 unfolding fromPci
 from-pci-refuses ps image buffer n = write-refuses (λ cs. values ps) (values ps) image buffer (parsePairs image ps) n
 
--- 20 is about a pair of a table, and no answer of the reader
+-- ---- what is told: acceptance, 11, or a refusal of the list
 
-fitting-not-twenty : (small : Bool) (ws image buffer : List ℕ) (o : Outcome) → o .answer .verdict ≡ 0 → fitting small ws image buffer o .answer .verdict ≡ 20 → ⊥
-fitting-not-twenty true ws image buffer o z e = let f : _≡_ {A = ℕ} 11 20 = e in omega arith
-fitting-not-twenty false ws image buffer o z e = omega (arith, z, e)
+record OfAnswers (P : Refusal → Type 0) (l : List ℕ) : Type 0 where
+  zero : (p : ℕ) → P (refusal 0 p)
+  eleven : (p : ℕ) → P (refusal 11 p)
+  refusals : OfRefusals P l
 
-read-not-twenty : (ws image buffer : List ℕ) (x : Parsed) → RefusesList 4098 x → readParsed ws image buffer x .answer .verdict ≡ 20 → ⊥
-read-not-twenty ws image buffer (refused f) r e = eqb-false (f .number) 20 (not-twenty r) e
-read-not-twenty ws image buffer (accepted cs) r e =
-    fitting-not-twenty (ltb (room buffer) (length (records 0 cs))) ws image buffer (accept ws cs (recordWords (records 0 cs)) (final image cs) buffer) refl e
+module _ (P : Refusal → Type 0) (l : List ℕ) (of : OfAnswers P l) where
+  of-fitting : (small : Bool) (ws image buffer : List ℕ) (o : Outcome) → P (refusalOf (o .answer)) → P (refusalOf (fitting small ws image buffer o .answer))
+  of-fitting true ws image buffer o t = of .eleven (length ws)
+  of-fitting false ws image buffer o t = t
 
-pub reading-not-twenty : (ws image buffer : List ℕ) → reading ws image buffer .answer .verdict ≡ 20 → ⊥
-unfolding reading
-reading-not-twenty ws image buffer = read-not-twenty ws image buffer (parse image ws) (parse-refuses image ws)
+  of-read : (ws image buffer : List ℕ) (x : Parsed) → OfParsed P x → P (refusalOf (readParsed ws image buffer x .answer))
+  of-read ws image buffer (refused f) t = t
+  of-read ws image buffer (accepted cs) t =
+      of-fitting (ltb (room buffer) (length (records 0 cs))) ws image buffer (accept ws cs (recordWords (records 0 cs)) (final image cs) buffer) (of .zero (length ws))
 
--- ---- the bit
+  of-write : (made : List Command → List ℕ) (ws image buffer : List ℕ) (x : Parsed) → OfParsed P x → P (refusalOf (writeParsed made ws image buffer x .answer))
+  of-write made ws image buffer (refused f) t = t
+  of-write made ws image buffer (accepted cs) t =
+      of-fitting (ltb (length buffer) (length (made cs))) ws image buffer (accept ws cs (made cs) image buffer) (of .zero (length ws))
 
-abbrev Tells : Outcome → Type 0
-Tells o = tellsBit (o .answer) ≡ true
+  module _ (image buffer : List ℕ) where
+    parsed : OfParsed P (parse image l)
+    parsed = of-parse P l (of .refusals) image
 
-fitting-tells : (small : Bool) (ws image buffer : List ℕ) (o : Outcome) → Tells o → Tells (fitting small ws image buffer o)
-fitting-tells true ws image buffer o t = refl
-fitting-tells false ws image buffer o t = t
+    of-reading : P (refusalOf (reading l image buffer .answer))
+    unfolding reading
+    of-reading = of-read l image buffer (parse image l) parsed
 
-read-tells : (ws image buffer : List ℕ) (x : Parsed) → RefusesList 4098 x → Tells (readParsed ws image buffer x)
-read-tells ws image buffer (refused f) r = r .bit
-read-tells ws image buffer (accepted cs) r = fitting-tells (ltb (room buffer) (length (records 0 cs))) ws image buffer _ refl
+    of-normalising : P (refusalOf (normalising l image buffer .answer))
+    unfolding normalising
+    of-normalising = of-write (λ cs. wordsAll (form image cs)) l image buffer (parse image l) parsed
 
-write-tells : (made : List Command → List ℕ) (ws image buffer : List ℕ) (x : Parsed) → RefusesList 4098 x → Tells (writeParsed made ws image buffer x)
-write-tells made ws image buffer (refused f) r = r .bit
-write-tells made ws image buffer (accepted cs) r = fitting-tells (ltb (length buffer) (length (made cs))) ws image buffer _ refl
+    of-to-pci : P (refusalOf (toPci l image buffer .answer))
+    unfolding toPci
+    of-to-pci = of-write pairsAll l image buffer (parse image l) parsed
 
-pub reading-tells : (ws image buffer : List ℕ) → Tells (reading ws image buffer)
-unfolding reading
-reading-tells ws image buffer = read-tells ws image buffer (parse image ws) (parse-refuses image ws)
-
-pub normalising-tells : (ws image buffer : List ℕ) → Tells (normalising ws image buffer)
-unfolding normalising
-normalising-tells ws image buffer = write-tells (λ cs. wordsAll (form image cs)) ws image buffer (parse image ws) (parse-refuses image ws)
-
-pub to-pci-tells : (ws image buffer : List ℕ) → Tells (toPci ws image buffer)
-unfolding toPci
-to-pci-tells ws image buffer = write-tells pairsAll ws image buffer (parse image ws) (parse-refuses image ws)
-
-pub from-pci-tells : (ps image buffer : List ℕ) → Tells (fromPci ps image buffer)
+of-from-pci : (P : Refusal → Type 0) (ps : List ℕ) → OfAnswers P (values ps) → (image buffer : List ℕ) → P (refusalOf (fromPci ps image buffer .answer))
 unfolding fromPci
-from-pci-tells ps image buffer = write-tells (λ cs. values ps) (values ps) image buffer (parsePairs image ps) (pairs-refuses image ps)
+of-from-pci P ps of image buffer =
+    of-write P (values ps) of (λ cs. values ps) (values ps) image buffer (parsePairs image ps) (of-pairs P image ps (of .refusals))
 
--- with 6 it is the lowest undefined one of the list's word at the position
+-- 20 is about a pair of a table, and no answer of the reader
+pub reading-not-twenty : (ws image buffer : List ℕ) → reading ws image buffer .answer .verdict ≡ 20 → ⊥
+reading-not-twenty ws image buffer = of-reading (λ f. f .number ≡ 20 → ⊥) ws (record {
+  zero = λ p e. let z : _≡_ {A = ℕ} 0 20 = e in omega arith;
+  eleven = λ p e. let z : _≡_ {A = ℕ} 11 20 = e in omega arith;
+  refusals = weaker (λ f p. eqb-false (f .number) 20 (not-twenty p)) (proper ws);
+}) image buffer
 
-abbrev LowestIn : List ℕ → Refusal → Type 0
-LowestIn l f = TellsLowest l (refusedAnswer f)
+-- with 6 a bit of the word, with every other verdict 32
+tells : (l : List ℕ) → OfAnswers (λ f. tellsBit (refusedAnswer f) ≡ true) l
+tells l = record { zero = λ p. refl; eleven = λ p. refl; refusals = weaker (λ f p. p .bit) (proper l) }
 
-lowest-in : (l : List ℕ) → OfRefusals (LowestIn l) l
-lowest-in l = record {
-  others = λ n p o near e. absurd (eqb-false n 6 (neither (eqb n 6) _ (not-true _ o) .0) e);
-  six = λ p b near lowest e. lowest;
+pub reading-tells : (ws image buffer : List ℕ) → tellsBit (reading ws image buffer .answer) ≡ true
+reading-tells ws = of-reading _ ws (tells ws)
+
+pub normalising-tells : (ws image buffer : List ℕ) → tellsBit (normalising ws image buffer .answer) ≡ true
+normalising-tells ws = of-normalising _ ws (tells ws)
+
+pub to-pci-tells : (ws image buffer : List ℕ) → tellsBit (toPci ws image buffer .answer) ≡ true
+to-pci-tells ws = of-to-pci _ ws (tells ws)
+
+pub from-pci-tells : (ps image buffer : List ℕ) → tellsBit (fromPci ps image buffer .answer) ≡ true
+from-pci-tells ps = of-from-pci _ ps (tells (values ps))
+
+-- with 6 the lowest undefined one of the list's word at the position
+lowest : (l : List ℕ) → OfAnswers (λ f. TellsLowest l (refusedAnswer f)) l
+lowest l = record {
+  zero = λ p e. let z : _≡_ {A = ℕ} 0 6 = e in absurd (omega arith);
+  eleven = λ p e. let z : _≡_ {A = ℕ} 11 6 = e in absurd (omega arith);
+  refusals = record {
+    others = λ n p o near e. absurd (eqb-false n 6 (neither (eqb n 6) _ (not-true _ o) .0) e);
+    six = λ p b near told e. told;
+  };
 }
 
-fitting-lowest : (small : Bool) (ws image buffer l : List ℕ) (o : Outcome) → o .answer .verdict ≡ 0 → TellsLowest l (fitting small ws image buffer o .answer)
-fitting-lowest true ws image buffer l o z e = let f : _≡_ {A = ℕ} 11 6 = e in absurd (omega arith)
-fitting-lowest false ws image buffer l o z e = absurd (omega (arith, z, e))
-
-read-lowest : (ws image buffer l : List ℕ) (x : Parsed) → OfParsed (LowestIn l) x → TellsLowest l (readParsed ws image buffer x .answer)
-read-lowest ws image buffer l (refused f) s = s
-read-lowest ws image buffer l (accepted cs) s = fitting-lowest (ltb (room buffer) (length (records 0 cs))) ws image buffer l _ refl
-
-write-lowest : (made : List Command → List ℕ) (ws image buffer l : List ℕ) (x : Parsed) → OfParsed (LowestIn l) x
-    → TellsLowest l (writeParsed made ws image buffer x .answer)
-write-lowest made ws image buffer l (refused f) s = s
-write-lowest made ws image buffer l (accepted cs) s = fitting-lowest (ltb (length buffer) (length (made cs))) ws image buffer l _ refl
-
-parse-lowest : (image ws : List ℕ) → OfParsed (LowestIn ws) (parse image ws)
-parse-lowest image ws = of-parse (LowestIn ws) ws (lowest-in ws) image
-
 pub reading-lowest : (ws image buffer : List ℕ) → TellsLowest ws (reading ws image buffer .answer)
-unfolding reading
-reading-lowest ws image buffer = read-lowest ws image buffer ws (parse image ws) (parse-lowest image ws)
+reading-lowest ws = of-reading _ ws (lowest ws)
 
 pub normalising-lowest : (ws image buffer : List ℕ) → TellsLowest ws (normalising ws image buffer .answer)
-unfolding normalising
-normalising-lowest ws image buffer = write-lowest (λ cs. wordsAll (form image cs)) ws image buffer ws (parse image ws) (parse-lowest image ws)
+normalising-lowest ws = of-normalising _ ws (lowest ws)
 
 pub to-pci-lowest : (ws image buffer : List ℕ) → TellsLowest ws (toPci ws image buffer .answer)
-unfolding toPci
-to-pci-lowest ws image buffer = write-lowest pairsAll ws image buffer ws (parse image ws) (parse-lowest image ws)
+to-pci-lowest ws = of-to-pci _ ws (lowest ws)
 
 pub from-pci-lowest : (ps image buffer : List ℕ) → TellsLowest (values ps) (fromPci ps image buffer .answer)
-unfolding fromPci
-from-pci-lowest ps image buffer =
-    write-lowest (λ cs. values ps) (values ps) image buffer (values ps) (parsePairs image ps) (of-pairs (LowestIn (values ps)) image ps (lowest-in (values ps)))
+from-pci-lowest ps = of-from-pci _ ps (lowest (values ps))
 
 -- ---- words that no command sets
 

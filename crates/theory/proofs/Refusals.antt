@@ -163,6 +163,9 @@ pub record OfRefusals (P : Refusal → Type 0) (l : List ℕ) : Type 0 where
   pub others : (n p : ℕ) → otherThanSix n ≡ true → p ≤ 4098 → P (refusal n p)
   pub six : (p b : ℕ) → p ≤ 4098 → LowestUndefinedAt (getD l p 0) (wordMask l p) b → P (record { number = 6; word = p; bit = b })
 
+pub weaker : {P Q : Refusal → Type 0} {l : List ℕ} → ((f : Refusal) → P f → Q f) → OfRefusals P l → OfRefusals Q l
+weaker {P} {Q} {l} h of = record { others = λ n p o near. h _ (of .others n p o near); six = λ p b near lowest. h _ (of .six p b near lowest) }
+
 abbrev pub OfParsed : (Refusal → Type 0) → Parsed → Type 0
 OfParsed P (refused f) = P f
 OfParsed P (accepted cs) = Unit {0}
