@@ -1,6 +1,6 @@
 /*
  * From C: reads a list, asks how long its normal form is and writes it in just that room, writes its PCI writes and the list
- * of these, reads two bad lists, and several lists in one call.
+ * of these, reads two bad lists, several lists in one call, and a list in the other byte order.
  */
 #include <inttypes.h>
 #include <stdio.h>
@@ -26,7 +26,8 @@ static void print_refusal(const char *name, const uint32_t *list, size_t list_wo
     uint32_t records[4] = {0};
     uint32_t answer[XP10_ANSWER_WORDS] = {0};
 
-    if (xp10_read(list, list_words, image, WORDS(image), records, WORDS(records), answer, WORDS(answer)) == verdict)
+    if (xp10_read(list, list_words, image, WORDS(image), records, WORDS(records), answer, WORDS(answer),
+                  XP10_NO_SWAP) == verdict)
         print_answer(name, answer);
 }
 
@@ -42,12 +43,12 @@ static void print_form(const uint32_t *list, size_t list_words, const uint32_t *
     if (answer[XP10_VERDICT] != XP10_ACCEPTED || out == NULL)
         exit(1);
 
-    xp10_normalise(list, list_words, start, start_words, out, words, answer, WORDS(answer));
+    xp10_normalise(list, list_words, start, start_words, out, words, answer, WORDS(answer), XP10_NO_SWAP);
     print_answer("normalise", answer);
     for (size_t i = 0; i < words; i++)
         printf("%08" PRIx32 "\n", out[i]);
     if (words > 0) {
-        xp10_normalise(list, list_words, start, start_words, out, words - 1, answer, WORDS(answer));
+        xp10_normalise(list, list_words, start, start_words, out, words - 1, answer, WORDS(answer), XP10_NO_SWAP);
         print_answer("one word less", answer);
     }
     free(out);
@@ -74,6 +75,28 @@ static void print_scenes(const char *name, const uint32_t *words, size_t words_w
     print_records(records, answer[XP10_WORDS]);
 }
 
+/* Reads and normalises a list from a host of the other byte order, and then in a mode over 3. */
+static void print_other_order(const uint32_t *list, size_t list_words)
+{
+    static const uint32_t start[256] = {0};
+    uint32_t image[256] = {0};
+    uint32_t words[64] = {0};
+    uint32_t answer[XP10_ANSWER_WORDS] = {0};
+
+    xp10_read(list, list_words, image, WORDS(image), words, WORDS(words), answer, WORDS(answer), XP10_FULL_SWAP);
+    print_answer("the other byte order", answer);
+    print_records(words, answer[XP10_WORDS]);
+    printf("image word 02 is %06" PRIx32 "\n", image[0x02]);
+
+    xp10_normalise(list, list_words, start, WORDS(start), words, WORDS(words), answer, WORDS(answer), XP10_FULL_SWAP);
+    print_answer("its form", answer);
+    for (uint32_t i = 0; i < answer[XP10_WORDS]; i++)
+        printf("%08" PRIx32 "\n", words[i]);
+
+    xp10_read(list, list_words, image, WORDS(image), words, WORDS(words), answer, WORDS(answer), XP10_FULL_SWAP + 1);
+    print_answer("no such mode", answer);
+}
+
 int main(void)
 {
     static const uint32_t list[] = {0x02000010, 0x00000300, 0x48000000, 0, 0, 0, 0x21000100, 0x10100007, 0, 0, 0};
@@ -84,6 +107,7 @@ int main(void)
     static const uint32_t good[] = {0, 3, 3, 2};
     static const uint32_t bad[] = {0, 3, 3, 1, 4, 2};
     static const uint32_t outside[] = {0, 3, 4, 3};
+    static const uint32_t reversed[] = {0x10000002, 0x20000002, 0x01000000, 0x20000002};
     uint32_t image[256] = {0};
     static const uint32_t start[256] = {0};
     uint32_t records[4 * WORDS(list)] = {0};
@@ -91,7 +115,7 @@ int main(void)
     uint32_t back[WORDS(list)] = {0};
     uint32_t answer[XP10_ANSWER_WORDS] = {0};
 
-    xp10_read(list, WORDS(list), image, WORDS(image), records, WORDS(records), answer, WORDS(answer));
+    xp10_read(list, WORDS(list), image, WORDS(image), records, WORDS(records), answer, WORDS(answer), XP10_NO_SWAP);
     print_answer("read", answer);
     print_records(records, answer[XP10_WORDS]);
     printf("image word 02 is %06" PRIx32 "\n", image[0x02]);
@@ -121,5 +145,7 @@ int main(void)
     print_scenes("two lists", scenes, WORDS(scenes), good, WORDS(good));
     print_scenes("the third is refused", scenes, WORDS(scenes), bad, WORDS(bad));
     print_scenes("the second is outside", scenes, WORDS(scenes), outside, WORDS(outside));
+
+    print_other_order(reversed, WORDS(reversed));
     return 0;
 }

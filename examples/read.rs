@@ -1,5 +1,5 @@
 //! From Rust: reads a list, asks how long its normal form is and writes it in just that room, writes its PCI writes and the
-//! list of these, reads two bad lists, and several lists in one call.
+//! list of these, reads two bad lists, several lists in one call, and a list in the other byte order.
 
 extern "C" {
     fn xp10_read(
@@ -11,6 +11,7 @@ extern "C" {
         records_words: usize,
         answer: *mut u32,
         answer_words: usize,
+        mode: u32,
     ) -> u32;
 
     fn xp10_read_scenes(
@@ -35,6 +36,7 @@ extern "C" {
         out_words: usize,
         answer: *mut u32,
         answer_words: usize,
+        mode: u32,
     ) -> u32;
 
     fn xp10_measure(
@@ -72,7 +74,11 @@ extern "C" {
 /// Verdict, position, commands, records, words, bit.
 type Answer = [u32; 6];
 
-fn read(list: &[u32], image: &mut [u32], records: &mut [u32]) -> Answer {
+/// The modes that are used here: unchanged, and all four bytes reversed.
+const NO_SWAP: u32 = 0;
+const FULL_SWAP: u32 = 3;
+
+fn read(list: &[u32], image: &mut [u32], records: &mut [u32], mode: u32) -> Answer {
     let mut answer = [0; 6];
     // SAFETY: each pointer is of a slice with its length, and no `&mut` slice overlaps another.
     unsafe {
@@ -85,6 +91,7 @@ fn read(list: &[u32], image: &mut [u32], records: &mut [u32]) -> Answer {
             records.len(),
             answer.as_mut_ptr(),
             answer.len(),
+            mode,
         )
     };
     answer
@@ -119,7 +126,26 @@ fn measure(list: &[u32], image: &[u32]) -> Answer {
     answer
 }
 
-/// A function that only reads the image and writes words: the normaliser, and PCI writes from a list and back.
+fn normalise(list: &[u32], image: &[u32], out: &mut [u32], mode: u32) -> Answer {
+    let mut answer = [0; 6];
+    // SAFETY: as for `read`.
+    unsafe {
+        xp10_normalise(
+            list.as_ptr(),
+            list.len(),
+            image.as_ptr(),
+            image.len(),
+            out.as_mut_ptr(),
+            out.len(),
+            answer.as_mut_ptr(),
+            answer.len(),
+            mode,
+        )
+    };
+    answer
+}
+
+/// PCI writes from a list, or back.
 type Writer = unsafe extern "C" fn(*const u32, usize, *const u32, usize, *mut u32, usize, *mut u32, usize) -> u32;
 
 fn write(function: Writer, words: &[u32], image: &[u32], out: &mut [u32]) -> Answer {
@@ -167,13 +193,30 @@ fn print_form(list: &[u32], start: &[u32]) {
     let told = measure(list, start);
     print_answer("measure", told);
     let mut out = vec![0; told[4] as usize];
-    print_answer("normalise", write(xp10_normalise, list, start, &mut out));
+    print_answer("normalise", normalise(list, start, &mut out, NO_SWAP));
     for word in &out {
         println!("{word:08x}");
     }
     if let Some((_, less)) = out.split_last_mut() {
-        print_answer("one word less", write(xp10_normalise, list, start, less));
+        print_answer("one word less", normalise(list, start, less, NO_SWAP));
     }
+}
+
+/// Reads and normalises a list from a host of the other byte order, and then in a mode over 3.
+fn print_other_order(list: &[u32]) {
+    let (mut image, mut words) = ([0; 256], [0; 64]);
+    let answer = read(list, &mut image, &mut words, FULL_SWAP);
+    print_answer("the other byte order", answer);
+    print_records(&words[..answer[4] as usize]);
+    println!("image word 02 is {:06x}", image[0x02]);
+
+    let answer = normalise(list, &[0; 256], &mut words, FULL_SWAP);
+    print_answer("its form", answer);
+    for word in &words[..answer[4] as usize] {
+        println!("{word:08x}");
+    }
+
+    print_answer("no such mode", read(list, &mut image, &mut words, FULL_SWAP + 1));
 }
 
 fn main() {
@@ -184,7 +227,7 @@ fn main() {
     let mut pairs = [0; 22];
     let mut back = [0; 11];
 
-    let answer = read(&list, &mut image, &mut records);
+    let answer = read(&list, &mut image, &mut records, NO_SWAP);
     print_answer("read", answer);
     print_records(&records[..answer[4] as usize]);
     println!("image word 02 is {:06x}", image[0x02]);
@@ -206,11 +249,13 @@ fn main() {
     pairs[6] += 4;
     print_answer("and its address", write(xp10_from_pci, &pairs, &start, &mut back));
 
-    print_answer("undefined bit", read(&[0x01000002], &mut image, &mut records));
-    print_answer("page maximum", read(&[0x84000000, 0x10000000, 0xC0000000, 0], &mut image, &mut records));
+    print_answer("undefined bit", read(&[0x01000002], &mut image, &mut records, NO_SWAP));
+    print_answer("page maximum", read(&[0x84000000, 0x10000000, 0xC0000000, 0], &mut image, &mut records, NO_SWAP));
 
     let scenes = [0x02000010, 0x00000001, 0x21000000, 0x00000002, 0x02000020, 0x03000000];
     print_scenes("two lists", &scenes, &[0, 3, 3, 2]);
     print_scenes("the third is refused", &scenes, &[0, 3, 3, 1, 4, 2]);
     print_scenes("the second is outside", &scenes, &[0, 3, 4, 3]);
+
+    print_other_order(&[0x10000002, 0x20000002, 0x01000000, 0x20000002]);
 }

@@ -1,8 +1,9 @@
 //! Builds of the proved library, with slices for its pointers and lengths.
 
+/// A function over slices, with a mode as its last parameter where one is named.
 macro_rules! function {
-    ($name:ident, $symbol:expr, $image:ty, $pointer:ty, $as_pointer:ident) => {
-        pub fn $name(input: &[u32], image: $image, out: &mut [u32], answer: &mut [u32]) -> u32 {
+    ($name:ident, $symbol:expr, $image:ty, $pointer:ty, $as_pointer:ident $(, $mode:ident)?) => {
+        pub fn $name(input: &[u32], image: $image, out: &mut [u32], answer: &mut [u32] $(, $mode: u32)?) -> u32 {
             extern "C" {
                 #[link_name = $symbol]
                 fn $name(
@@ -14,9 +15,11 @@ macro_rules! function {
                     out_words: usize,
                     answer: *mut u32,
                     answer_words: usize,
+                    $($mode: u32,)?
                 ) -> u32;
             }
-            // SAFETY: each pointer comes with its slice's own length.
+            // SAFETY: each pointer comes with its slice's own length. An earlier build without modes does not look at
+            // the last argument.
             unsafe {
                 $name(
                     input.as_ptr(),
@@ -27,6 +30,7 @@ macro_rules! function {
                     out.len(),
                     answer.as_mut_ptr(),
                     answer.len(),
+                    $($mode,)?
                 )
             }
         }
@@ -100,8 +104,8 @@ pub mod scenes {
 macro_rules! library {
     ($build:ident, $prefix:literal) => {
         pub mod $build {
-            function!(read, concat!($prefix, "read"), &mut [u32], *mut u32, as_mut_ptr);
-            function!(normalise, concat!($prefix, "normalise"), &[u32], *const u32, as_ptr);
+            function!(read, concat!($prefix, "read"), &mut [u32], *mut u32, as_mut_ptr, mode);
+            function!(normalise, concat!($prefix, "normalise"), &[u32], *const u32, as_ptr, mode);
             measure!(concat!($prefix, "measure"));
             function!(to_pci, concat!($prefix, "to_pci"), &[u32], *const u32, as_ptr);
             function!(from_pci, concat!($prefix, "from_pci"), &[u32], *const u32, as_ptr);

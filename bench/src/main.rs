@@ -15,7 +15,8 @@ use pci::pairs_of;
 use std::hint::black_box;
 use std::time::{Duration, Instant};
 
-type Read = fn(&[u32], &mut [u32], &mut [u32], &mut [u32]) -> u32;
+type Read = fn(&[u32], &mut [u32], &mut [u32], &mut [u32], u32) -> u32;
+type Normalise = fn(&[u32], &[u32], &mut [u32], &mut [u32], u32) -> u32;
 type Write = fn(&[u32], &[u32], &mut [u32], &mut [u32]) -> u32;
 type Measure = fn(&[u32], &[u32], &mut [u32]) -> u32;
 
@@ -37,7 +38,7 @@ macro_rules! implementations {
 }
 
 const READ: [Read; COUNT] = implementations!(read, rust::read);
-const NORMALISE: [Write; COUNT] = implementations!(normalise, rust::normalise);
+const NORMALISE: [Normalise; COUNT] = implementations!(normalise, rust::normalise);
 const MEASURE: [Measure; MEASURES] = [
     proved::measure,
     rust::measure,
@@ -57,8 +58,20 @@ fn hold_equal(name: &str, input: &[u32], left: &[Left]) {
     }
 }
 
+/// The normalisers in a mode, as writers without one.
+fn normalisers(mode: u32) -> [impl Fn(&[u32], &[u32], &mut [u32], &mut [u32]) -> u32; COUNT] {
+    NORMALISE.map(|normalise| {
+        move |list: &[u32], image: &[u32], out: &mut [u32], answer: &mut [u32]| {
+            normalise(list, image, out, answer, mode)
+        }
+    })
+}
+
 /// Runs the writers of one name on one input and holds all that they leave equal.
-fn compare_writers(name: &str, writers: &[Write], input: &[u32], image: &[u32], room: usize, numbers: usize) {
+fn compare_writers<W>(name: &str, writers: &[W], input: &[u32], image: &[u32], room: usize, numbers: usize)
+where
+    W: Fn(&[u32], &[u32], &mut [u32], &mut [u32]) -> u32,
+{
     let left = writers.iter().map(|write| {
         let (mut out, mut answer) = (vec![0xAAAA_AAAA; room], vec![0xBBBB_BBBB; numbers]);
         let verdict = write(input, image, &mut out, &mut answer);
@@ -67,23 +80,28 @@ fn compare_writers(name: &str, writers: &[Write], input: &[u32], image: &[u32], 
     hold_equal(name, input, &left.collect::<Vec<_>>());
 }
 
-/// Runs the first `count` implementations on one list, from one image and with buffers of one size, and holds all that
-/// they leave equal.
-fn compare(count: usize, list: &[u32], image: &[u32], room: usize, numbers: usize) {
+/// Runs the first `count` readers and normalisers on one list in one mode, from one image and with buffers of one size,
+/// and holds all that they leave equal.
+fn compare_in(mode: u32, count: usize, list: &[u32], image: &[u32], room: usize, numbers: usize) {
     let left = READ[..count].iter().map(|read| {
         let (mut image, mut records, mut answer) =
             (image.to_vec(), vec![0xAAAA_AAAA; room], vec![0xBBBB_BBBB; numbers]);
-        let verdict = read(list, &mut image, &mut records, &mut answer);
+        let verdict = read(list, &mut image, &mut records, &mut answer, mode);
         (verdict, answer, vec![image, records])
     });
     hold_equal("read", list, &left.collect::<Vec<_>>());
+    compare_writers("normalise", &normalisers(mode)[..count], list, image, room, numbers);
+}
+
+/// The same of all functions on lists, in mode 0.
+fn compare(count: usize, list: &[u32], image: &[u32], room: usize, numbers: usize) {
+    compare_in(0, count, list, image, room, numbers);
     let left = MEASURE[..count.min(MEASURES)].iter().map(|measure| {
         let mut answer = vec![0xBBBB_BBBB; numbers];
         let verdict = measure(list, image, &mut answer);
         (verdict, answer, vec![])
     });
     hold_equal("measure", list, &left.collect::<Vec<_>>());
-    compare_writers("normalise", &NORMALISE[..count], list, image, room, numbers);
     compare_writers("to_pci", &TO_PCI[..count], list, image, room, numbers);
 }
 
@@ -111,9 +129,15 @@ fn spoilt(random: &mut Random, words: &[u32]) -> Vec<u32> {
     copy
 }
 
-/// Compares on each list and its pairs as they are, and on spoilt copies with buffers and images of other sizes. The
-/// library before takes part where its answer must be the same: accepted lists, and five numbers. Gives the number of
-/// lists compared.
+/// A list for a board in a mode: swapped, it is got as it was.
+fn swapped(list: &[u32], mode: u32) -> Vec<u32> {
+    let swap = [rust::got::<0>, rust::got::<1>, rust::got::<2>, rust::got::<3>][mode as usize % 4];
+    list.iter().map(|&word| swap(word)).collect()
+}
+
+/// Compares on each list and its pairs as they are, and on spoilt copies with buffers and images of other sizes, in mode
+/// 0 and in another. The library before takes part where its answer must be the same: accepted lists, and five numbers.
+/// Gives the number of lists compared.
 fn compare_all(lists: &[Vec<u32>]) -> usize {
     let mut random = Random::new(3);
     let mut done = 0;
@@ -122,6 +146,9 @@ fn compare_all(lists: &[Vec<u32>]) -> usize {
         for (count, numbers) in [(2, 6), (COUNT, 5)] {
             compare(count, list, &image, list.len().max(4096) * 4, numbers);
             compare_pairs(count, &pairs_of(list), &image, list.len(), numbers);
+        }
+        for mode in 1..5 {
+            compare_in(mode, 2, &swapped(list, mode), &image, list.len().max(4096) * 4, 6);
         }
         for _ in 0..64 {
             let list = spoilt(&mut random, list);
@@ -132,6 +159,8 @@ fn compare_all(lists: &[Vec<u32>]) -> usize {
             let numbers = random.below(8) as usize;
             compare(2, &list, &image, room, numbers);
             compare_pairs(2, &pairs, &image, room, numbers);
+            let mode = 1 + random.below(4);
+            compare_in(mode, 2, &swapped(&list, mode), &image, room, numbers);
             done += 1;
         }
         done += 1;
@@ -140,6 +169,11 @@ fn compare_all(lists: &[Vec<u32>]) -> usize {
     compare(2, &long, &[0; 256], 20000, 6);
     compare(2, &long[..4096], &[0; 256], 20000, 6);
     compare(2, &[], &[0; 256], 0, 6);
+    for mode in 1..5 {
+        for len in [0, 64, 65, 512, 513, 4095, 4096, 4097] {
+            compare_in(mode, 2, &long[..len], &[0; 256], 20000, 6);
+        }
+    }
     let pairs = [0x2800, 0].repeat(4097);
     for len in [8194, 8193, 8192, 8191, 1, 0] {
         compare_pairs(2, &pairs[..len], &[0; 256], 5000, 6);
@@ -187,43 +221,85 @@ fn line(name: &str, unit: &str, units: usize, times: &[Duration]) {
     let per = |t: Duration| t.as_secs_f64() * 1e9 / units as f64;
     let ratio = |t: Duration| times[0].as_secs_f64() / t.as_secs_f64();
     let [proved, rust] = [times[0], times[1]];
-    print!("{name:<32} {:>9.3} {:>9.3}  {unit:<12} {:>6.3}", per(proved), per(rust), ratio(rust));
+    print!("{name:<40} {:>9.3} {:>9.3}  {unit:<12} {:>6.3}", per(proved), per(rust), ratio(rust));
     if let Some(&before) = times.get(2) {
         print!(" {:>9.3} {:>6.3}", per(before), ratio(before));
     }
     println!();
 }
 
-/// Times the five functions on lists of one kind. Each implementation's reader goes on from the image that it left.
-fn time_lists(rounds: usize, name: &str, lists: &[Vec<u32>]) {
-    let mut images = [[0u32; 256]; COUNT];
-    let image = [0u32; 256];
-    let mut buffer = vec![0u32; 16384];
-    let mut answer = [0u32; 6];
+/// How much lists are, and in what a time is given.
+fn units(lists: &[Vec<u32>]) -> (usize, &'static str) {
     let words: usize = lists.iter().map(Vec::len).sum();
-    let (units, unit) = if words / lists.len() < 20 { (lists.len(), "ns per call") } else { (words, "ns per word") };
-    let read: [_; COUNT] = time(rounds, |which| {
+    if words / lists.len() < 20 {
+        (lists.len(), "ns per call")
+    } else {
+        (words, "ns per word")
+    }
+}
+
+/// Times the readers in a mode. Each goes on from the image that it left.
+fn time_read<const N: usize>(rounds: usize, name: &str, mode: u32, lists: &[Vec<u32>]) {
+    let mut images = [[0u32; 256]; N];
+    let (mut records, mut answer) = (vec![0u32; 16384], [0u32; 6]);
+    let times: [_; N] = time(rounds, |which| {
         for list in lists {
-            black_box(READ[which](list, &mut images[which], &mut buffer, &mut answer));
+            black_box(READ[which](list, &mut images[which], &mut records, &mut answer, mode));
         }
     });
-    line(&format!("read, {name}"), unit, units, &read);
-    let measure: [_; MEASURES] = time(rounds, |which| {
+    let (units, unit) = units(lists);
+    line(name, unit, units, &times);
+}
+
+/// Times writers on inputs that are made of these lists, or are them.
+fn time_writers<const N: usize, W>(rounds: usize, name: &str, writers: &[W], inputs: &[Vec<u32>], lists: &[Vec<u32>])
+where
+    W: Fn(&[u32], &[u32], &mut [u32], &mut [u32]) -> u32,
+{
+    let image = [0u32; 256];
+    let (mut out, mut answer) = (vec![0u32; 16384], [0u32; 6]);
+    let times: [_; N] = time(rounds, |which| {
+        for input in inputs {
+            black_box(writers[which](input, &image, &mut out, &mut answer));
+        }
+    });
+    let (units, unit) = units(lists);
+    line(name, unit, units, &times);
+}
+
+fn time_measure(rounds: usize, name: &str, lists: &[Vec<u32>]) {
+    let image = [0u32; 256];
+    let mut answer = [0u32; 6];
+    let times: [_; MEASURES] = time(rounds, |which| {
         for list in lists {
             black_box(MEASURE[which](list, &image, &mut answer));
         }
     });
-    line(&format!("measure, {name}"), unit, units, &measure);
+    let (units, unit) = units(lists);
+    line(name, unit, units, &times);
+}
+
+/// The library before knows modes, where there is one.
+fn before_swaps() -> bool {
+    READ[2..].iter().any(|read| read(&[], &mut [0; 256], &mut [], &mut [0; 6], 4) == 21)
+}
+
+/// Times the functions on lists of one kind, the reader and the normaliser in mode 3 too.
+fn time_lists(rounds: usize, name: &str, lists: &[Vec<u32>]) {
+    time_read::<COUNT>(rounds, &format!("read, {name}"), 0, lists);
+    time_measure(rounds, &format!("measure, {name}"), lists);
+    time_writers::<COUNT, _>(rounds, &format!("normalise, {name}"), &normalisers(0), lists, lists);
+    time_writers::<COUNT, _>(rounds, &format!("to_pci, {name}"), &TO_PCI, lists, lists);
     let pairs: Vec<_> = lists.iter().map(|list| pairs_of(list)).collect();
-    for (function, writers, inputs) in
-        [("normalise", NORMALISE, lists), ("to_pci", TO_PCI, lists), ("from_pci", FROM_PCI, &pairs)]
-    {
-        let times: [_; COUNT] = time(rounds, |which| {
-            for input in inputs {
-                black_box(writers[which](input, &image, &mut buffer, &mut answer));
-            }
-        });
-        line(&format!("{function}, {name}"), unit, units, &times);
+    time_writers::<COUNT, _>(rounds, &format!("from_pci, {name}"), &FROM_PCI, &pairs, lists);
+    let reversed: Vec<_> = lists.iter().map(|list| swapped(list, 3)).collect();
+    let (read, normalise) = (format!("read in mode 3, {name}"), format!("normalise in mode 3, {name}"));
+    if before_swaps() {
+        time_read::<COUNT>(rounds, &read, 3, &reversed);
+        time_writers::<COUNT, _>(rounds, &normalise, &normalisers(3), &reversed, lists);
+    } else {
+        time_read::<2>(rounds, &read, 3, &reversed);
+        time_writers::<2, _>(rounds, &normalise, &normalisers(3), &reversed, lists);
     }
 }
 
@@ -240,7 +316,7 @@ fn main() {
     let compared = compare_commands() + groups.iter().map(|(_, lists)| compare_all(lists)).sum::<usize>();
     let sessions = scenes::compare(&short);
     println!("outputs equal on {compared} lists and {sessions} sessions; best of {rounds} rounds, buffers not cleared between calls");
-    print!("{:<32} {:>9} {:>9}  {:<12} {:>6}", "", "proved", "Rust", "", "ratio");
+    print!("{:<40} {:>9} {:>9}  {:<12} {:>6}", "", "proved", "Rust", "", "ratio");
     println!("{}", if cfg!(before) { "    before  ratio" } else { "" });
     for (name, lists) in &groups {
         time_lists(rounds, name, lists);

@@ -148,7 +148,7 @@ pub fn to_pci(list: &[u32], image: &[u32], pairs: &mut [u32], answer: &mut [u32]
     if image.len() != IMAGE {
         return refuse(answer, Refusal::new(2, 0));
     }
-    let counts = match walk(list.as_chunks::<1>().0).map_err(|at| refused(&list[at..], at)) {
+    let counts = match walk(list.as_chunks::<1>().0).map_err(|at| refused::<0>(&list[at..], at)) {
         Ok(counts) => counts,
         Err(refusal) => return refuse(answer, refusal),
     };
@@ -183,7 +183,7 @@ fn refused_pairs(pairs: &[Pair], at: usize) -> Refusal {
     let pairs = &pairs[at..];
     misplaced(pairs, at).unwrap_or_else(|| {
         let list: Vec<u32> = pairs.iter().map(|pair| pair[1]).collect();
-        refused(&list, at)
+        refused::<0>(&list, at)
     })
 }
 

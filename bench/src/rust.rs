@@ -1,4 +1,5 @@
-//! The reader and the normaliser in safe Rust, written for speed: what the proved library is timed against.
+//! The reader and the normaliser in safe Rust, written for speed: what the proved library is timed against. They are
+//! generic over the mode: a word is swapped where it is taken from the list.
 
 #![forbid(unsafe_code)]
 
@@ -80,6 +81,17 @@ const fn rows() -> [Row; 256] {
 /// The id and size in words of each setting.
 static SETTINGS: [(usize, usize); 9] =
     [(0x02, 1), (0x26, 1), (0x30, 1), (0x31, 1), (0x84, 4), (0x88, 4), (0x8C, 4), (0x90, 4), (0xC4, 4)];
+
+/// A list's word as it is got in a mode.
+#[inline(always)]
+pub fn got<const MODE: u32>(word: u32) -> u32 {
+    match MODE {
+        0 => word,
+        1 => (word & 0x00FF_00FF) << 8 | word >> 8 & 0x00FF_00FF,
+        2 => word.rotate_left(16),
+        _ => word.swap_bytes(),
+    }
+}
 
 /// The bit of every verdict but 6.
 pub const NO_BIT: u32 = 32;
@@ -184,11 +196,11 @@ pub fn group_size(id: u8, header: u32) -> usize {
 
 /// Checks a command of four words, and gives its size.
 #[inline(always)]
-fn check_group(id: u8, header: u32, row: &Row, rest: &[u32], at: usize) -> Result<usize, Refusal> {
+fn check_group<const MODE: u32>(id: u8, header: u32, row: &Row, rest: &[u32], at: usize) -> Result<usize, Refusal> {
     let Some(&[_, second, third, fourth]) = rest.first_chunk::<4>() else {
         return Err(Refusal::new(5, at));
     };
-    let words = [header, second, third, fourth];
+    let words = [header, got::<MODE>(second), got::<MODE>(third), got::<MODE>(fourth)];
     let outside = |i: usize| words[i] & !row.masks[i];
     if outside(0) | outside(1) | outside(2) | outside(3) != 0 {
         return Err(undefined(words, &row.masks, at));
@@ -220,15 +232,15 @@ impl Pass for () {
 
 /// Checks a list. Gives the start of the first command that fails.
 #[inline(always)]
-fn check(list: &[u32], pass: &mut impl Pass) -> Result<Counts, usize> {
+fn check<const MODE: u32>(list: &[u32], pass: &mut impl Pass) -> Result<Counts, usize> {
     let mut counts = Counts { commands: 0, records: 0 };
     let mut at = 0;
     let mut flip = false;
     while at < list.len() {
         let rest = &list[at..];
-        let (id, header, row) = split(rest[0]);
+        let (id, header, row) = split(got::<MODE>(rest[0]));
         let size = if row.size == 4 {
-            check_group(id, header, row, rest, at).map_err(|_| at)?
+            check_group::<MODE>(id, header, row, rest, at).map_err(|_| at)?
         } else if row.kind == Kind::Unknown || header & !row.masks[0] != 0 {
             return Err(at);
         } else {
@@ -248,8 +260,8 @@ fn check(list: &[u32], pass: &mut impl Pass) -> Result<Counts, usize> {
 
 /// The refusal of the command that these words start with, once it was found to fail.
 #[cold]
-pub fn refused(words: &[u32], at: usize) -> Refusal {
-    let (id, header, row) = split(words[0]);
+pub fn refused<const MODE: u32>(words: &[u32], at: usize) -> Refusal {
+    let (id, header, row) = split(got::<MODE>(words[0]));
     if row.kind == Kind::Unknown {
         return Refusal::new(if matches!(id, 3 | 4) { 4 } else { 3 }, at);
     }
@@ -257,7 +269,7 @@ pub fn refused(words: &[u32], at: usize) -> Refusal {
         return undefined([header, 0, 0, 0], &row.masks, at);
     }
     if row.size == 4 {
-        if let Err(refusal) = check_group(id, header, row, words, at) {
+        if let Err(refusal) = check_group::<MODE>(id, header, row, words, at) {
             return refusal;
         }
     }
@@ -286,22 +298,33 @@ fn check_sizes(list: &[u32], image: &[u32]) -> Result<(), Refusal> {
     Ok(())
 }
 
-fn check_all(list: &[u32], image: &[u32]) -> Result<Counts, Refusal> {
+fn check_all<const MODE: u32>(list: &[u32], image: &[u32]) -> Result<Counts, Refusal> {
     check_sizes(list, image)?;
-    check(list, &mut ()).map_err(|at| refused(&list[at..], at))
+    check::<MODE>(list, &mut ()).map_err(|at| refused::<MODE>(&list[at..], at))
+}
+
+/// Copies words of a list.
+#[inline(always)]
+fn copy<const MODE: u32>(to: &mut [u32], words: &[u32]) {
+    if MODE == 0 {
+        return to.copy_from_slice(words);
+    }
+    for (to, &word) in to.iter_mut().zip(words) {
+        *to = got::<MODE>(word);
+    }
 }
 
 /// Applies an accepted list.
-fn apply(list: &[u32], image: &mut [u32; IMAGE], records: &mut [u32]) {
+fn apply<const MODE: u32>(list: &[u32], image: &mut [u32; IMAGE], records: &mut [u32]) {
     let mut records = records.chunks_exact_mut(4);
     let mut at = 0;
     while at < list.len() {
-        let (id, header, row) = split(list[at]);
+        let (id, header, row) = split(got::<MODE>(list[at]));
         let i = id as usize;
         if let Kind::Setting(_) = row.kind {
             image[i] = header;
             if row.size == 4 {
-                image[i + 1..i + 4].copy_from_slice(&list[at + 1..at + 4]);
+                copy::<MODE>(&mut image[i + 1..i + 4], &list[at + 1..at + 4]);
                 at += 4;
             } else {
                 at += 1;
@@ -321,9 +344,25 @@ fn apply(list: &[u32], image: &mut [u32; IMAGE], records: &mut [u32]) {
     }
 }
 
+/// 21.
+#[cold]
+fn no_such_mode(answer: &mut [u32]) -> u32 {
+    refuse(answer, Refusal::new(21, 0))
+}
+
 #[inline(never)]
-pub fn read(list: &[u32], image: &mut [u32], records: &mut [u32], answer: &mut [u32]) -> u32 {
-    let counts = match check_all(list, image) {
+pub fn read(list: &[u32], image: &mut [u32], records: &mut [u32], answer: &mut [u32], mode: u32) -> u32 {
+    match mode {
+        0 => read_in::<0>(list, image, records, answer),
+        1 => read_in::<1>(list, image, records, answer),
+        2 => read_in::<2>(list, image, records, answer),
+        3 => read_in::<3>(list, image, records, answer),
+        _ => no_such_mode(answer),
+    }
+}
+
+fn read_in<const MODE: u32>(list: &[u32], image: &mut [u32], records: &mut [u32], answer: &mut [u32]) -> u32 {
+    let counts = match check_all::<MODE>(list, image) {
         Ok(counts) => counts,
         Err(refusal) => return refuse(answer, refusal),
     };
@@ -332,14 +371,14 @@ pub fn read(list: &[u32], image: &mut [u32], records: &mut [u32], answer: &mut [
         return refuse(answer, Refusal::new(11, list.len()));
     }
     if let Ok(image) = image.try_into() {
-        apply(list, image, records);
+        apply::<MODE>(list, image, records);
     }
     give(answer, [0, list.len() as u32, counts.commands, counts.records, words, NO_BIT])
 }
 
 /// Where the words of a form go.
 trait Sink {
-    fn put(&mut self, words: &[u32]);
+    fn put<const MODE: u32>(&mut self, words: &[u32]);
 }
 
 /// Counts them.
@@ -347,7 +386,7 @@ struct Count(usize);
 
 impl Sink for Count {
     #[inline(always)]
-    fn put(&mut self, words: &[u32]) {
+    fn put<const MODE: u32>(&mut self, words: &[u32]) {
         self.0 += words.len();
     }
 }
@@ -360,9 +399,9 @@ struct Write<'a> {
 
 impl Sink for Write<'_> {
     #[inline(always)]
-    fn put(&mut self, words: &[u32]) {
+    fn put<const MODE: u32>(&mut self, words: &[u32]) {
         let end = self.len + words.len();
-        self.out[self.len..end].copy_from_slice(words);
+        copy::<MODE>(&mut self.out[self.len..end], words);
         self.len = end;
     }
 }
@@ -394,23 +433,24 @@ impl Settings {
 
     /// Puts each setting that differs from what the form has left.
     #[inline(always)]
-    fn flush(&mut self, list: &[u32], sink: &mut impl Sink) {
+    fn flush<const MODE: u32>(&mut self, list: &[u32], sink: &mut impl Sink) {
         while self.changed != 0 {
             let i = self.changed.trailing_zeros() as usize;
             self.changed &= self.changed - 1;
             let (at, built) = (self.latest[i], &mut self.built[i]);
             if i < 4 {
-                let header = list[at] & HEADER;
+                let header = got::<MODE>(list[at]) & HEADER;
                 if built[0] != header {
                     built[0] = header;
-                    sink.put(&list[at..at + 1]);
+                    sink.put::<MODE>(&list[at..at + 1]);
                 }
             } else {
                 let words = &list[at..at + 4];
-                let now = [words[0] & HEADER, words[1], words[2], words[3]];
+                let [first, second, third, fourth] = [0, 1, 2, 3].map(|i| got::<MODE>(words[i]));
+                let now = [first & HEADER, second, third, fourth];
                 if *built != now {
                     *built = now;
-                    sink.put(words);
+                    sink.put::<MODE>(words);
                 }
             }
         }
@@ -419,27 +459,37 @@ impl Settings {
 
 /// The normal form of an accepted list.
 #[inline(always)]
-fn form(list: &[u32], image: &[u32; IMAGE], sink: &mut impl Sink) {
+fn form<const MODE: u32>(list: &[u32], image: &[u32; IMAGE], sink: &mut impl Sink) {
     let mut settings = Settings::new(image);
     let mut at = 0;
     while at < list.len() {
-        let (id, header, row) = split(list[at]);
+        let (id, header, row) = split(got::<MODE>(list[at]));
         if let Kind::Setting(which) = row.kind {
             settings.set(which, at);
             at += row.size as usize;
         } else {
             let size = if row.size == 4 { group_size(id, header) } else { 1 };
-            settings.flush(list, sink);
-            sink.put(&list[at..at + size]);
+            settings.flush::<MODE>(list, sink);
+            sink.put::<MODE>(&list[at..at + size]);
             at += size;
         }
     }
-    settings.flush(list, sink);
+    settings.flush::<MODE>(list, sink);
 }
 
 #[inline(never)]
-pub fn normalise(list: &[u32], image: &[u32], out: &mut [u32], answer: &mut [u32]) -> u32 {
-    let counts = match check_all(list, image) {
+pub fn normalise(list: &[u32], image: &[u32], out: &mut [u32], answer: &mut [u32], mode: u32) -> u32 {
+    match mode {
+        0 => normalise_in::<0>(list, image, out, answer),
+        1 => normalise_in::<1>(list, image, out, answer),
+        2 => normalise_in::<2>(list, image, out, answer),
+        3 => normalise_in::<3>(list, image, out, answer),
+        _ => no_such_mode(answer),
+    }
+}
+
+fn normalise_in<const MODE: u32>(list: &[u32], image: &[u32], out: &mut [u32], answer: &mut [u32]) -> u32 {
+    let counts = match check_all::<MODE>(list, image) {
         Ok(counts) => counts,
         Err(refusal) => return refuse(answer, refusal),
     };
@@ -449,13 +499,13 @@ pub fn normalise(list: &[u32], image: &[u32], out: &mut [u32], answer: &mut [u32
     // A form is never longer than its list.
     if out.len() < list.len() {
         let mut count = Count(0);
-        form(list, image, &mut count);
+        form::<MODE>(list, image, &mut count);
         if out.len() < count.0 {
             return refuse(answer, Refusal::new(11, list.len()));
         }
     }
     let mut write = Write { out, len: 0 };
-    form(list, image, &mut write);
+    form::<MODE>(list, image, &mut write);
     let words = write.len as u32;
     give(answer, [0, list.len() as u32, counts.commands, counts.records, words, NO_BIT])
 }
@@ -472,7 +522,7 @@ impl Pass for Measured {
         if let Kind::Setting(which) = kind {
             self.settings.set(which, at);
         } else {
-            self.settings.flush(list, &mut self.words);
+            self.settings.flush::<0>(list, &mut self.words);
             self.words.0 += size;
         }
     }
@@ -483,8 +533,8 @@ fn measure_all(list: &[u32], image: &[u32]) -> Result<(Counts, usize), Refusal> 
     check_sizes(list, image)?;
     let image = image.try_into().map_err(|_| Refusal::new(2, 0))?;
     let mut measured = Measured { settings: Settings::new(image), words: Count(0) };
-    let counts = check(list, &mut measured).map_err(|at| refused(&list[at..], at))?;
-    measured.settings.flush(list, &mut measured.words);
+    let counts = check::<0>(list, &mut measured).map_err(|at| refused::<0>(&list[at..], at))?;
+    measured.settings.flush::<0>(list, &mut measured.words);
     Ok((counts, measured.words.0))
 }
 

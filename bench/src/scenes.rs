@@ -69,11 +69,11 @@ fn by_calls(
 }
 
 fn read_scenes(words: &[u32], table: &[u32], image: &mut [u32], records: &mut [u32], answer: &mut [u32]) -> u32 {
-    by_calls(rust::read, words, table, image, records, answer)
+    by_calls(|l, i, r, a| rust::read(l, i, r, a, 0), words, table, image, records, answer)
 }
 
 fn single_calls(words: &[u32], table: &[u32], image: &mut [u32], records: &mut [u32], answer: &mut [u32]) -> u32 {
-    by_calls(proved::read, words, table, image, records, answer)
+    by_calls(|l, i, r, a| proved::read(l, i, r, a, 0), words, table, image, records, answer)
 }
 
 /// Runs all on one session and holds equal what they leave.

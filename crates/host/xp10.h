@@ -38,7 +38,21 @@ enum {
     XP10_RASTER_BITS = 17,     /* raster mode: bit 14 without bit 22: the command's first word */
     XP10_LOAD_FLOATS = 18,     /* bit 23 of a load whose code is not 5: the command's first word */
     XP10_PLANE_RANGE = 19,     /* a load of user clip planes behind the eighth: the command's first word */
-    XP10_PAIR_OUTSIDE = 20     /* of a table of lists: a pair after the 4,096th, or not inside the word buffer: 0 */
+    XP10_PAIR_OUTSIDE = 20,    /* of a table of lists: a pair after the 4,096th, or not inside the word buffer: 0 */
+    XP10_NO_SUCH_MODE = 21     /* a mode over 3: 0; told before all else */
+};
+
+/*
+ * The modes of xp10_read and xp10_normalise, for a host whose byte order is not the board's: how the board swaps the bytes of
+ * each word of a list, payload too, before it reads it (CommandSwap, with the guide's names). Positions count the list's words
+ * as ever; image, records and normal form hold the words as swapped, so a form is read back in XP10_NO_SWAP. The other
+ * functions do not swap.
+ */
+enum {
+    XP10_NO_SWAP = 0,   /* unchanged */
+    XP10_HALF_SWAP = 1, /* the bytes swapped in each half: 11223344 is got as 22114433 */
+    XP10_WORD_SWAP = 2, /* the halves swapped: 11223344 is got as 33441122 */
+    XP10_FULL_SWAP = 3  /* all four bytes reversed: 11223344 is got as 44332211 */
 };
 
 /*
@@ -57,22 +71,24 @@ enum {
 };
 
 /*
- * Reads a list: returns the verdict, and on acceptance leaves the new image, and a record of four words for each work
- * command: id, position, length in words with payload, header. A refusal changes neither.
+ * Reads a list in a mode: returns the verdict, and on acceptance leaves the new image, and a record of four words for each
+ * work command: id, position, length in words with payload, header. A refusal changes neither.
+ * It takes up to 18 kB of stack, and so does xp10_normalise: 16 kB of it are for the words as swapped, set aside in every mode.
  */
 uint32_t xp10_read(const uint32_t *list, size_t list_words,
                    uint32_t *image, size_t image_words,
                    uint32_t *records, size_t records_words,
-                   uint32_t *answer, size_t answer_words);
+                   uint32_t *answer, size_t answer_words,
+                   uint32_t mode);
 
 /*
  * Reads several lists of one word buffer in turn, over one image: `table` has a start and a length, in words, for each; an
- * odd last word is ignored. Each list is read as by xp10_read, from the image that the lists before left and with the record
- * room that they left; the positions of its records count inside it. The first refused list ends the call: its refusal, with
- * the position inside that list and the bit, is told and changes nothing more, and the lists before it stay applied.
- * XP10_COMMANDS, XP10_RECORDS and XP10_WORDS are sums over the lists applied, also after a refusal, and XP10_LISTS is how many
- * these are. XP10_PAIR_OUTSIDE is asked when a pair's turn comes, before its list is looked at. On acceptance XP10_POSITION is
- * the last list's length; with no pair it is 0, and the image may have any size.
+ * odd last word is ignored. Each list is read as by xp10_read in XP10_NO_SWAP, from the image that the lists before left
+ * and with the record room that they left; the positions of its records count inside it. The first refused list ends the
+ * call: its refusal, with the position inside that list and the bit, is told and changes nothing more, and the lists before
+ * it stay applied. XP10_COMMANDS, XP10_RECORDS and XP10_WORDS are sums over the lists applied, also after a refusal, and
+ * XP10_LISTS is how many these are. XP10_PAIR_OUTSIDE is asked when a pair's turn comes, before its list is looked at. On
+ * acceptance XP10_POSITION is the last list's length; with no pair it is 0, and the image may have any size.
  */
 uint32_t xp10_read_scenes(const uint32_t *words, size_t words_words,
                           const uint32_t *table, size_t table_words,
@@ -81,19 +97,20 @@ uint32_t xp10_read_scenes(const uint32_t *words, size_t words_words,
                           uint32_t *answer, size_t answer_words);
 
 /*
- * Writes the list's normal form from a starting image: returns the verdict. A form has at most as many words as its
- * list. A refusal leaves `out` as it was.
+ * Writes the normal form of a list in a mode, from a starting image: returns the verdict. A form has at most as many words as
+ * its list; xp10_measure tells how many, in XP10_NO_SWAP alone. A refusal leaves `out` as it was.
  */
 uint32_t xp10_normalise(const uint32_t *list, size_t list_words,
                         const uint32_t *image, size_t image_words,
                         uint32_t *out, size_t out_words,
-                        uint32_t *answer, size_t answer_words);
+                        uint32_t *answer, size_t answer_words,
+                        uint32_t mode);
 
 /*
  * Tells the room that a list's normal form takes, before a buffer is lent: returns the verdict, and on acceptance
- * XP10_WORDS is the form's length, at most the list's. It refuses what xp10_normalise refuses but for
- * XP10_BUFFER_TOO_SMALL, and only `answer` is written. An `out` of just so many words is enough for xp10_normalise, which
- * then gives the same answer, and one word less never is.
+ * XP10_WORDS is the form's length, at most the list's. It refuses what xp10_normalise refuses in XP10_NO_SWAP but for
+ * XP10_BUFFER_TOO_SMALL, and only `answer` is written. An `out` of just so many words is enough for xp10_normalise in that
+ * mode, which then gives the same answer, and one word less never is.
  */
 uint32_t xp10_measure(const uint32_t *list, size_t list_words,
                       const uint32_t *image, size_t image_words,

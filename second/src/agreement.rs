@@ -1,7 +1,8 @@
-//! The measure held against the normaliser, and a session against the reader.
+//! The measure held against the normaliser, a session against the reader, and a list in a mode against
+//! those that are the same in other modes.
 
 use crate::lists::{Case, CaseKind, Image};
-use crate::outcome::{prefilled, Function, Outcome};
+use crate::outcome::{self, prefilled, Function, Outcome};
 use crate::rules::{put, Refusal, ANSWER_WORDS, NO_BIT};
 
 /// The first thing in a case that isn't as another function gives it.
@@ -9,6 +10,7 @@ pub fn disagreement(case: &Case, run: impl FnMut(Function, &Case) -> Outcome) ->
     match case.kind {
         CaseKind::List => of_measure(case, run),
         CaseKind::Session => of_session(case, run),
+        CaseKind::InMode => of_mode(case, run),
     }
 }
 
@@ -126,10 +128,52 @@ fn add_call(all: &mut Outcome, call: Outcome) -> Result<(), String> {
     Ok(())
 }
 
+/// A list in a mode gives what the words got from it give without a mode, and what they give swapped for
+/// each mode. In a mode over 3 it is 21, and nothing changes.
+fn of_mode(case: &Case, mut run: impl FnMut(Function, &Case) -> Outcome) -> Option<String> {
+    let got: Vec<u32> = case.list.iter().map(|word| swapped(case.mode(), *word)).collect();
+    let without_mode = Case { kind: CaseKind::List, arguments: Vec::new(), ..case.clone() };
+    let mut others = vec![Case { list: got.clone(), ..without_mode }];
+    for mode in 0..4 {
+        let list = got.iter().map(|word| swapped(mode, *word)).collect();
+        others.push(Case { list, arguments: vec![mode], ..case.clone() });
+    }
+    case.kind.functions().find_map(|function| {
+        let given = run(function, case);
+        if case.mode() > 3 {
+            let refused = outcome::difference(function, &given, &in_mode_over_3(function, case));
+            return refused.map(|difference| format!("in a mode over 3: {difference}"));
+        }
+        others.iter().find_map(|other| {
+            let difference = outcome::difference(function, &given, &run(function, other))?;
+            Some(format!("{difference} of the same words, {:?} {}", other.kind, other.mode()))
+        })
+    })
+}
+
+/// The word got in a mode, by shifts.
+pub fn swapped(mode: u32, word: u32) -> u32 {
+    match mode {
+        1 => (word & 0x00FF00FF) << 8 | word >> 8 & 0x00FF00FF,
+        2 => word.rotate_left(16),
+        3 => swapped(1, swapped(2, word)),
+        _ => word,
+    }
+}
+
+/// 21, and all lent words as before.
+pub fn in_mode_over_3(function: Function, case: &Case) -> Outcome {
+    Outcome {
+        answer: [21, 0, 0, 0, 0, NO_BIT],
+        more: Vec::new(),
+        image: case.image.words(),
+        buffer: prefilled(function.buffer_len(case)),
+    }
+}
+
 #[cfg(test)]
 mod tests {
     use super::*;
-    use crate::outcome;
     use crate::rules;
 
     /// Disagreements on N1, whose form has two words, with the outcomes changed.
@@ -208,6 +252,46 @@ mod tests {
         }
         let lists = |_, outcome: &mut Outcome| outcome.more.iter_mut().for_each(|n| *n += 1);
         assert!(found_in_session(lists).is_some());
+    }
+
+    /// Disagreements on a list in a mode, with the outcomes changed.
+    fn found_in_mode(mode: u32, change: impl Fn(Function, &Case, &mut Outcome)) -> Option<String> {
+        let case = Case {
+            class: "a list in a mode",
+            kind: CaseKind::InMode,
+            list: [0x02000010, 0x00000001].map(|word| swapped(mode, word)).to_vec(),
+            arguments: vec![mode],
+            image: Image::ZERO,
+            records_len: 6,
+            out_len: 5,
+            pci_len: 0,
+        };
+        disagreement(&case, |function, case| {
+            let mut outcome = outcome::of(function, rules::paper(), case);
+            change(function, case, &mut outcome);
+            outcome
+        })
+    }
+
+    #[test]
+    fn other_modes_are_found() {
+        for mode in 0..6 {
+            assert_eq!(found_in_mode(mode, |_, _, _| {}), None);
+            for function in [Function::Reader, Function::Normaliser] {
+                let here = move |of, case: &Case| of == function && case.mode() == mode;
+                let found = |change: fn(&mut Outcome)| {
+                    found_in_mode(mode, |of, case, outcome| {
+                        if here(of, case) && case.kind == CaseKind::InMode {
+                            change(outcome);
+                        }
+                    })
+                };
+                assert!(found(|outcome| outcome.answer[0] ^= 1).is_some());
+                assert!(found(|outcome| outcome.answer[5] ^= 1).is_some());
+                assert!(found(|outcome| outcome.image[9] ^= 1).is_some());
+                assert!(found(|outcome| outcome.buffer[4] ^= 1).is_some());
+            }
+        }
     }
 
     #[test]

@@ -4,7 +4,7 @@ use crate::lists::{self, Case, CaseKind, Image};
 use crate::outcome::{self, Function};
 use crate::rules;
 
-/// 8 is no longer given, and 12 is the listing program's alone. Those from 21 on are for later requests.
+/// 8 is no longer given, and 12 is the listing program's alone. Those from 22 on are for later requests.
 const VERDICTS: usize = 33;
 
 /// How often each function gave each verdict.
@@ -78,6 +78,10 @@ fn print_case(case: &Case, longest: usize) {
             println!("  words   {}", hex(&case.list, longest));
             println!("  table   {}", hex(&case.arguments, longest));
         }
+        CaseKind::InMode => {
+            println!("  list    {}", hex(&case.list, longest));
+            println!("  mode    {:X}", case.mode());
+        }
     }
     match &case.image {
         Image::Seeded { seed: 0, len } => println!("  image   {len} zero words"),
@@ -88,6 +92,7 @@ fn print_case(case: &Case, longest: usize) {
     let others = match case.kind {
         CaseKind::List => format!(", {out_len} for the form, {pci_len} for PCI"),
         CaseKind::Session => String::new(),
+        CaseKind::InMode => format!(", {out_len} for the form"),
     };
     println!("  room    {records_len} words for records{others}");
 }
@@ -146,7 +151,9 @@ mod with_proved {
     /// more.
     fn answer_len(kind: CaseKind, index: usize) -> usize {
         let lengths = match kind {
-            CaseKind::List => [6, 6, 5, 6, 6, 0, 6, 1, 6, 2, 5, 3, 6, 4, 7, 9, 6],
+            CaseKind::List | CaseKind::InMode => {
+                [6, 6, 5, 6, 6, 0, 6, 1, 6, 2, 5, 3, 6, 4, 7, 9, 6]
+            }
             CaseKind::Session => [7, 7, 6, 7, 7, 0, 7, 1, 5, 2, 6, 3, 7, 4, 8, 10, 7],
         };
         lengths[index % lengths.len()]
@@ -188,7 +195,7 @@ mod with_proved {
         }
         let pairs = [
             ("list", &case.list, &call.list),
-            ("table", &case.arguments, &call.arguments),
+            ("arguments", &case.arguments, &call.arguments),
             ("image", &expected.image, &call.image),
             ("buffer", &expected.buffer, &call.buffer),
         ];

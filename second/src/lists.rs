@@ -1,7 +1,9 @@
-//! Test cases: lists and sessions with a starting image and buffer lengths, the same for the same seed.
+//! Test cases: lists, sessions and lists in a mode, with a starting image and buffer lengths, the same for
+//! the same seed.
 
 mod commands;
 mod fixed;
+mod modes;
 mod pairs;
 mod random;
 mod sessions;
@@ -11,6 +13,7 @@ use crate::prng::{self, Prng};
 use crate::rules::{self, IMAGE_WORDS, RECORD_WORDS};
 
 pub use fixed::{fixed_cases, fixed_sample, one_or_two_bits, OneOrTwoBits};
+pub use modes::{fixed_in_modes, random_in_mode, stored_in_modes};
 pub use pairs::{pairs as pairs_of, random_pairs};
 pub use random::{any_list, any_refused_list, equivalent_list, random_case};
 pub use sessions::{fixed_sessions, random_session, stored_sessions};
@@ -21,7 +24,7 @@ pub struct Case {
     pub kind: CaseKind,
     /// A list, or the words in which the lists of a session lie.
     pub list: Vec<u32>,
-    /// The table of a session.
+    /// The table of a session, or a list's mode.
     pub arguments: Vec<u32>,
     pub image: Image,
     pub records_len: usize,
@@ -37,6 +40,18 @@ pub enum CaseKind {
     List,
     /// Several lists, and a table of their starts and lengths.
     Session,
+    /// A list and a mode, for the functions that take one.
+    InMode,
+}
+
+impl Case {
+    /// The mode in which its list is read.
+    pub fn mode(&self) -> u32 {
+        match self.kind {
+            CaseKind::List | CaseKind::Session => 0,
+            CaseKind::InMode => self.arguments[0],
+        }
+    }
 }
 
 #[derive(Clone)]
@@ -85,15 +100,16 @@ impl Purpose {
     }
 }
 
-/// Case number `index`: the fixed ones first, then random ones, every third of pairs and every sixth a
-/// session.
+/// Case number `index`: the fixed ones first, then random ones, every fourth of pairs, every eighth a
+/// session and every eighth a list in a mode.
 pub fn case(fixed: &[Case], index: usize, seed: u64) -> Case {
     match fixed.get(index) {
         Some(case) => case.clone(),
         None => {
-            let of = match index % 6 {
+            let of = match index % 8 {
                 2 | 5 => random_pairs,
                 4 => random_session,
+                7 => random_in_mode,
                 _ => random_case,
             };
             of(&mut Prng::new(seed, index as u64), Purpose::Run)

@@ -1,4 +1,4 @@
-//! A second implementation of document 01, with Tickets 1 to 6 of document 02, and of the tool, to
+//! A second implementation of document 01, with Tickets 1 to 7 of document 02, and of the tool, to
 //! compare with the proved one.
 
 mod agreement;

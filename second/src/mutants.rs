@@ -4,6 +4,7 @@ mod changes;
 mod clashes;
 mod effects;
 mod equivalent;
+mod modes;
 mod orders;
 mod runs;
 mod scenes;
@@ -153,7 +154,8 @@ fn shown(mutants: &[&Mutant], fixed: &[Case]) -> usize {
         let of = |function| (function, outcome::of(function, rules::paper(), &case));
         let expected: Vec<(Function, Outcome)> = case.kind.functions().map(of).collect();
         open.retain(|mutant| {
-            let concerned = expected.iter().filter(|(function, _)| mutant.concerns(*function));
+            let concerned =
+                expected.iter().filter(|(function, _)| mutant.concerns(*function, case.kind));
             let mut differences = concerned.filter_map(|(function, expected)| {
                 outcome::difference(*function, &mutant.run(*function, &case), expected)
             });

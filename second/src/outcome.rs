@@ -27,11 +27,12 @@ impl Function {
         ["reader", "normaliser", "to_pci", "from_pci", "measure", "read_scenes"][self as usize]
     }
 
-    /// The cases that it runs on.
-    pub fn kind(self) -> CaseKind {
-        match self {
-            Function::Scenes => CaseKind::Session,
-            _ => CaseKind::List,
+    /// It runs on such a case.
+    pub fn runs_on(self, kind: CaseKind) -> bool {
+        match kind {
+            CaseKind::List => self != Function::Scenes,
+            CaseKind::Session => self == Function::Scenes,
+            CaseKind::InMode => matches!(self, Function::Reader | Function::Normaliser),
         }
     }
 
@@ -55,34 +56,38 @@ impl Function {
         }
     }
 
-    /// The list that it reads: the case's words, or what they are as pairs, or what of them is in the list
-    /// at which a session stops.
+    /// The list that it reads: the words got from the case's in its mode, or what they are as pairs, or what
+    /// of them is in the list at which a session stops.
     pub fn list_of(self, case: &Case) -> Vec<u32> {
         match self {
             Function::FromPci => rules::paper().from_pci.recovered(&case.list).values,
             Function::Scenes => {
                 rules::paper().scenes.list(&case.list, &case.arguments, lists_applied(case))
             }
-            _ => case.list.clone(),
+            _ => rules::paper().words_got(case.mode(), &case.list),
         }
     }
 
-    /// The verdicts that it gives. Pairs that are through have no command cut short.
-    pub fn verdicts(self) -> Vec<u32> {
+    /// The verdicts that it gives for such a case. Pairs that are through have no command cut short.
+    pub fn verdicts(self, kind: CaseKind) -> Vec<u32> {
         let own: &[u32] = match self {
             Function::FromPci => &[0, 1, 2, 3, 4, 6, 7, 10, 11, 13, 14],
             Function::Measure => &[0, 1, 2, 3, 4, 5, 6, 7, 9, 10],
             _ => &[0, 1, 2, 3, 4, 5, 6, 7, 9, 10, 11],
         };
-        let pairs: &[u32] = if self == Function::Scenes { &[20] } else { &[] };
-        [own, &[15, 16, 17, 18, 19], pairs].concat()
+        let of_kind: &[u32] = match kind {
+            CaseKind::List => &[],
+            CaseKind::Session => &[20],
+            CaseKind::InMode => &[21],
+        };
+        [own, &[15, 16, 17, 18, 19], of_kind].concat()
     }
 }
 
 impl CaseKind {
     /// The functions that run on such a case.
     pub fn functions(self) -> impl Iterator<Item = Function> {
-        Function::ALL.into_iter().filter(move |function| function.kind() == self)
+        Function::ALL.into_iter().filter(move |function| function.runs_on(self))
     }
 }
 
@@ -117,8 +122,8 @@ pub fn of(function: Function, rules: &Rules, case: &Case) -> Outcome {
     let mut buffer = prefilled(function.buffer_len(case));
     let mut more = Vec::new();
     let answer = match function {
-        Function::Reader => rules.read(&case.list, &mut image, &mut buffer),
-        Function::Normaliser => rules.normalise(&case.list, &image, &mut buffer),
+        Function::Reader => rules.read_in(case.mode(), &case.list, &mut image, &mut buffer),
+        Function::Normaliser => rules.normalise_in(case.mode(), &case.list, &image, &mut buffer),
         Function::ToPci => rules.to_pci(&case.list, &image, &mut buffer),
         Function::FromPci => rules.from_pci(&case.list, &image, &mut buffer),
         Function::Measure => rules.measure(&case.list, &image),

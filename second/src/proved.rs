@@ -14,6 +14,7 @@ extern "C" {
         records_len: usize,
         answer: *mut u32,
         answer_len: usize,
+        mode: u32,
     ) -> u32;
 
     fn xp10_normalise(
@@ -25,6 +26,7 @@ extern "C" {
         out_len: usize,
         answer: *mut u32,
         answer_len: usize,
+        mode: u32,
     ) -> u32;
 
     fn xp10_to_pci(
@@ -166,8 +168,8 @@ type Reading = unsafe extern "C" fn(
 pub fn call(function: Function, case: &Case, answer_len: usize) -> Call {
     let mut lent = LentWords::new(case, function.buffer_len(case), answer_len);
     let returned = match function {
-        Function::Reader => read(&mut lent),
-        Function::Normaliser => call_reading(xp10_normalise, &mut lent),
+        Function::Reader => read(&mut lent, case.mode()),
+        Function::Normaliser => normalise(&mut lent, case.mode()),
         Function::ToPci => call_reading(xp10_to_pci, &mut lent),
         Function::FromPci => call_reading(xp10_from_pci, &mut lent),
         Function::Measure => measure(&mut lent),
@@ -176,7 +178,7 @@ pub fn call(function: Function, case: &Case, answer_len: usize) -> Call {
     lent.call(returned)
 }
 
-fn read(lent: &mut LentWords) -> u32 {
+fn read(lent: &mut LentWords, mode: u32) -> u32 {
     let list = lent.list.words();
     let image = lent.image.words();
     let records = lent.buffer.words();
@@ -192,6 +194,28 @@ fn read(lent: &mut LentWords) -> u32 {
             records.len(),
             answer.as_mut_ptr(),
             answer.len(),
+            mode,
+        )
+    }
+}
+
+fn normalise(lent: &mut LentWords, mode: u32) -> u32 {
+    let list = lent.list.words();
+    let image = lent.image.words();
+    let out = lent.buffer.words();
+    let answer = lent.answer.words();
+    // SAFETY: as for `read`.
+    unsafe {
+        xp10_normalise(
+            list.as_ptr(),
+            list.len(),
+            image.as_ptr(),
+            image.len(),
+            out.as_mut_ptr(),
+            out.len(),
+            answer.as_mut_ptr(),
+            answer.len(),
+            mode,
         )
     }
 }

@@ -1,7 +1,7 @@
 //! Reading, normalising and listing by document 01, with PCI writes by Ticket 1 of document 02, the
-//! bit and the clashes told by Tickets 2 and 6, the page thresholds by Ticket 3, and the form's length told
-//! by Ticket 4, and several lists in one call by Ticket 5; and what the tool says and writes, by its own
-//! paper.
+//! bit and the clashes told by Tickets 2 and 6, the page thresholds by Ticket 3, the form's length told
+//! by Ticket 4, several lists in one call by Ticket 5, and lists of another byte order by Ticket 7; and
+//! what the tool says and writes, by its own paper.
 //!
 //! What the documents fix stands in `document` as a value of `Rules`; here is what they say to do
 //! with it. Nothing may panic for a `Rules` with one part changed, so that `mutants` can run it.
@@ -14,6 +14,7 @@ mod measure;
 mod pci;
 mod scenes;
 mod shape;
+mod swap;
 mod tool;
 
 use std::ops::Range;
@@ -25,6 +26,7 @@ pub use language::{
 };
 pub use scenes::*;
 pub use shape::*;
+pub use swap::*;
 pub use tool::{words_of, Ids, Name, Names, Piece, RefusalRow, RefusalRows, Run, Task};
 
 static PAPER: LazyLock<Rules> = LazyLock::new(Rules::paper);
@@ -76,7 +78,7 @@ impl Refusal {
 }
 
 /// A command of a list, with its payload.
-#[derive(Debug)]
+#[derive(Clone, Copy, Debug)]
 pub struct Command<'a> {
     pub row: &'a Row,
     pub position: usize,
@@ -245,38 +247,43 @@ impl Rules {
         }
     }
 
+    /// In mode 0.
     pub fn read(&self, list: &[u32], image: &mut [u32], records: &mut [u32]) -> Answer {
-        self.try_read(list, image, records).unwrap_or_else(Refusal::answer)
+        self.read_in(0, list, image, records)
+    }
+
+    pub fn read_in(
+        &self,
+        mode: u32,
+        list: &[u32],
+        image: &mut [u32],
+        records: &mut [u32],
+    ) -> Answer {
+        let read = self.words_in(mode, list, image).and_then(|got| {
+            let source = Source { got: &got, own: list, after_base: false };
+            self.try_read(&source, image, records)
+        });
+        read.unwrap_or_else(Refusal::answer)
     }
 
     fn try_read(
         &self,
-        list: &[u32],
+        source: &Source,
         image: &mut [u32],
         records: &mut [u32],
     ) -> Result<Answer, Refusal> {
-        self.try_read_from(list, false, image, records)
-    }
-
-    /// The same, where a surface base may stand before the list.
-    fn try_read_from(
-        &self,
-        list: &[u32],
-        after_base: bool,
-        image: &mut [u32],
-        records: &mut [u32],
-    ) -> Result<Answer, Refusal> {
-        let commands = self.checked_from(list, after_base, image)?;
-        let found = self.records(&commands);
+        let Source { got, after_base, .. } = *source;
+        let commands = self.checked_from(got, after_base, image)?;
+        let found = self.records(&source.held(&commands, self.swap.records));
         let (needed, room) = (found.len(), self.record_room(records.len()));
-        let facts = Facts { needed, room, ..Facts::of(list, image) };
+        let facts = Facts { needed, room, ..Facts::of(got, image) };
         self.pass(&self.room_for_records, &OTHER_ID, 0, &facts)?;
-        for command in &commands {
+        for command in &source.held(&commands, self.swap.image) {
             self.apply(command, image);
         }
         let words = found.concat();
         put(records, &words);
-        Ok(self.accepted(list, &commands, words.len()))
+        Ok(self.accepted(got, &commands, words.len()))
     }
 
     pub fn records(&self, commands: &[Command]) -> Vec<Vec<u32>> {
@@ -314,22 +321,31 @@ impl Rules {
         }
     }
 
+    /// In mode 0.
     pub fn normalise(&self, list: &[u32], image: &[u32], out: &mut [u32]) -> Answer {
-        self.try_normalise(list, image, out).unwrap_or_else(Refusal::answer)
+        self.normalise_in(0, list, image, out)
+    }
+
+    pub fn normalise_in(&self, mode: u32, list: &[u32], image: &[u32], out: &mut [u32]) -> Answer {
+        let normalised = self.words_in(mode, list, image).and_then(|got| {
+            let source = Source { got: &got, own: list, after_base: false };
+            self.try_normalise(&source, image, out)
+        });
+        normalised.unwrap_or_else(Refusal::answer)
     }
 
     fn try_normalise(
         &self,
-        list: &[u32],
+        source: &Source,
         image: &[u32],
         out: &mut [u32],
     ) -> Result<Answer, Refusal> {
-        let commands = self.checked(list, image)?;
-        let form = self.normal_form(&commands, image);
-        let facts = Facts { needed: form.len(), room: out.len(), ..Facts::of(list, image) };
+        let commands = self.checked(source.got, image)?;
+        let form = self.normal_form(&source.held(&commands, self.swap.form), image);
+        let facts = Facts { needed: form.len(), room: out.len(), ..Facts::of(source.got, image) };
         self.pass(&self.room_for_form, &OTHER_ID, 0, &facts)?;
         put(out, &form);
-        Ok(self.accepted(list, &commands, form.len()))
+        Ok(self.accepted(source.got, &commands, form.len()))
     }
 }
 

@@ -1,6 +1,7 @@
 //! Checks of the rules: the paper's cases, and on random lists demand 3, the bit told, the form's length
-//! told and sessions.
+//! told, sessions and lists in a mode.
 
+mod modes;
 mod scenes;
 
 use crate::agreement;
@@ -13,7 +14,7 @@ use crate::rules::{self, Answer, Refusal, Task, IMAGE_WORDS, NO_BIT, RECORD_WORD
 use crate::runs;
 
 /// Each panics when it fails.
-pub const CHECKS: [(&str, fn()); 16] = [
+pub const CHECKS: [(&str, fn()); 20] = [
     ("cases of document 01", paper_cases),
     ("the guide's writes", guide_writes),
     ("page thresholds", page_thresholds),
@@ -28,6 +29,10 @@ pub const CHECKS: [(&str, fn()); 16] = [
     ("pairs and back", pairs_and_back),
     ("several scenes in one call", scenes::by_hand),
     ("sessions and single calls", scenes::single_calls),
+    ("lists in a mode", modes::by_hand),
+    ("the same words in every mode", modes::same_words),
+    ("demand 3 in a mode", modes::demand_3),
+    ("21 before all else", modes::over_3_first),
     ("the tool's texts", tool_texts),
     ("the tool and the functions", tool_and_functions),
 ];
@@ -503,6 +508,26 @@ mod tests {
     #[test]
     fn single_calls() {
         super::scenes::single_calls();
+    }
+
+    #[test]
+    fn modes_by_hand() {
+        super::modes::by_hand();
+    }
+
+    #[test]
+    fn same_words_in_every_mode() {
+        super::modes::same_words();
+    }
+
+    #[test]
+    fn demand_3_in_a_mode() {
+        super::modes::demand_3();
+    }
+
+    #[test]
+    fn over_3_first() {
+        super::modes::over_3_first();
     }
 
     #[test]

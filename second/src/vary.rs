@@ -5,6 +5,7 @@
 
 mod language;
 mod shape;
+mod swap;
 mod tool;
 
 pub type Variants<T> = Vec<(String, T)>;

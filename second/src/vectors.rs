@@ -17,8 +17,9 @@ use std::path::Path;
 const RANDOM_LISTS: usize = 1500;
 const RANDOM_PAIRS: usize = 700;
 const RANDOM_SESSIONS: usize = 300;
+const RANDOM_IN_MODE: usize = 250;
 
-/// The lists, then the sessions.
+/// The lists, then the sessions, then the lists in a mode.
 pub fn stored_cases() -> Vec<Case> {
     let random = |seed: u64, cases: usize, of: fn(&mut Prng, Purpose) -> Case| {
         (0..cases as u64).map(move |number| of(&mut Prng::new(seed, number), Purpose::Store))
@@ -29,6 +30,10 @@ pub fn stored_cases() -> Vec<Case> {
     let [short, long] = lists::stored_sessions();
     cases.extend(short);
     cases.extend(random(8, RANDOM_SESSIONS, lists::random_session));
+    cases.extend(long);
+    let [short, long] = lists::stored_in_modes();
+    cases.extend(short);
+    cases.extend(random(9, RANDOM_IN_MODE, lists::random_in_mode));
     cases.extend(long);
     cases
 }
@@ -67,7 +72,7 @@ fn case_words(case: &Case) -> Vec<u32> {
 
 /// What each function that runs on the case does to its digest.
 pub fn parts_of(case: &Case) -> Parts {
-    Function::ALL.map(|function| match function.kind() == case.kind {
+    Function::ALL.map(|function| match function.runs_on(case.kind) {
         true => Part::of(function, &outcome::of(function, rules::paper(), case)),
         false => Part::NONE,
     })
@@ -127,7 +132,7 @@ mod tests {
     /// Of a size to be kept in the repository.
     #[test]
     fn file_is_small() {
-        assert!(crate_files().0.len() <= 1_500_000);
+        assert!(crate_files().0.len() <= 1_700_000);
     }
 
     /// Only the plane range refuses it: seen where the length is read from fewer bits.
@@ -147,8 +152,12 @@ mod tests {
             assert!(case.list.len() <= 8200 && case.arguments.len() <= 8200);
             assert!(case.image.words().len() <= 300);
             assert!(case.records_len <= 5000 && case.out_len <= 5000 && case.pci_len <= 8200);
-            let buffers_alone = case.kind == CaseKind::List || case.out_len + case.pci_len == 0;
-            assert!(buffers_alone && (case.kind == CaseKind::Session || case.arguments.is_empty()));
+            let Case { out_len, pci_len, arguments, .. } = case;
+            assert!(match case.kind {
+                CaseKind::List => arguments.is_empty(),
+                CaseKind::Session => out_len + pci_len == 0,
+                CaseKind::InMode => arguments.len() == 1 && *pci_len == 0,
+            });
         }
     }
 
@@ -188,6 +197,32 @@ mod tests {
         for pairs in [4096, 4097, 4098] {
             let has = |case: &Case| case.arguments.len() / 2 == pairs;
             assert!(stored_of(CaseKind::Session).any(has), "{pairs} pairs");
+        }
+    }
+
+    /// In each mode accepted lists of every length next to which a buffer could end, and too long ones, in a
+    /// mode over 3 too; and modes over 3 of each bit.
+    #[test]
+    fn modes_are_there() {
+        let given = |case: &Case| {
+            let verdict = verdict_and_position(Function::Normaliser, case)[0];
+            (case.mode(), case.list.len(), verdict)
+        };
+        let all: Vec<_> = stored_of(CaseKind::InMode).map(given).collect();
+        for mode in 0..4 {
+            for words in [0, 63, 64, 65, 511, 512, 513, 4096] {
+                assert!(all.contains(&(mode, words, 0)), "{words} words in mode {mode}");
+            }
+            assert!(all.contains(&(mode, 4097, 1)), "4097 words in mode {mode}");
+        }
+        assert!(all.contains(&(4, 4097, 21)));
+        for mode in [0, 1, 2, 3, 4, 5, 255, 0x100, 0x80000003, 0xFFFFFFFF] {
+            let count = all.iter().filter(|(of, ..)| *of == mode).count();
+            assert!(count > 10, "mode {mode:X}");
+        }
+        for bit in 2..32 {
+            let alone = |mode: u32| mode >> 2 << 2 == 1 << bit;
+            assert!(all.iter().any(|(mode, ..)| alone(*mode)), "bit {bit} of a mode");
         }
     }
 
@@ -232,12 +267,14 @@ mod tests {
 
     #[test]
     fn every_verdict_is_there() {
-        for function in Function::ALL {
+        let kinds = [CaseKind::List, CaseKind::Session, CaseKind::InMode];
+        let all = kinds.map(|kind| kind.functions().map(move |function| (kind, function)));
+        for (kind, function) in all.into_iter().flatten() {
             let of = |case| verdict_and_position(function, case)[0];
-            let given: Vec<u32> = stored_of(function.kind()).map(of).collect();
-            for verdict in function.verdicts() {
+            let given: Vec<u32> = stored_of(kind).map(of).collect();
+            for verdict in function.verdicts(kind) {
                 let count = given.iter().filter(|given| **given == verdict).count();
-                assert!(count >= 2, "{} gives {verdict} {count} times", function.name());
+                assert!(count >= 2, "{} gives {verdict} {count} times, {kind:?}", function.name());
             }
         }
     }

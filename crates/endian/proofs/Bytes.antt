@@ -1,14 +1,14 @@
 -- The bytes of some words.
-use Prim.Native.Nat.{ℕ, _+_, _*_, _/_, _%_, _^_, _≤_, _<_}
+use Prim.Native.Nat.{ℕ, _+_, _*_, _≤_, _<_}
 use native.Mathlib.Omega.{arith}
 use native.Mathlib.Numerals.{add-one}
-use native.Mathlib.Nat.{div-div-eq-div-mul}
 use mathlib.Core.Path.{_≡_, refl, ap, ap₂, _∙_}
 use mathlib.Core.List.{List, [], _∷_, _++_}
 use lib.ListN.{length, getD, take}
 use lib.Seq.{sets, take-suc, take-all, length-take-le}
 use Rattle.theory.proofs.Image.{sets-append}
-use Rattle.endian.specs.Words.{littleEndian, wordsOf, wordBytes, bytesOf}
+use Rattle.theory.proofs.Bytes.{Words, word-again}
+use Rattle.endian.specs.Words.{wordsOf, wordBytes, bytesOf}
 
 pub bytes-length : (ws : List ℕ) → length (bytesOf ws) ≡ 4 * length ws
 unfolding bytesOf
@@ -34,24 +34,6 @@ module _ (ws before : List ℕ) where
   bytes-all i h e = e ∙ ap (λ (l : List ℕ). sets before 0 (bytesOf l)) (take-all i ws h)
 
 -- ---- there and back
-
-abbrev pub Words : List ℕ → Type 0
-Words [] = Unit {0}
-Words (w ∷ ws) = (w < 2 ^ 32) × Words ws
-
-by-digits : (w r₀ q₁ r₁ q₂ r₂ q₃ r₃ : ℕ) → w ≡ r₀ + q₁ * 0x100 → q₁ ≡ r₁ + q₂ * 0x100 → q₂ ≡ r₂ + q₃ * 0x100 → q₃ ≡ r₃ → littleEndian r₀ r₁ r₂ r₃ ≡ w
-by-digits w r₀ q₁ r₁ q₂ r₂ q₃ r₃ a b c d = omega (arith, a, b, c, d)
-
-low : (n : ℕ) → n ≡ n % 0x100 + n / 0x100 * 0x100
-low n = omega arith
-
-high : (n : ℕ) → n < 2 ^ 32 → n / 0x1000000 ≡ n / 0x1000000 % 0x100
-high n h = omega (arith, h)
-
-word-again : (w : ℕ) → w < 2 ^ 32 → littleEndian (w % 0x100) (w / 0x100 % 0x100) (w / 0x10000 % 0x100) (w / 0x1000000 % 0x100) ≡ w
-word-again w h =
-    by-digits w (w % 0x100) (w / 0x100) (w / 0x100 % 0x100) (w / 0x10000) (w / 0x10000 % 0x100) (w / 0x1000000) (w / 0x1000000 % 0x100) (low w)
-    (rw (← div-div-eq-div-mul w 0x100 0x100) (low (w / 0x100))) (rw (← div-div-eq-div-mul w 0x10000 0x100) (low (w / 0x10000))) (high w h)
 
 -- the words of the bytes of some words are these
 pub words-again : (ws : List ℕ) → Words ws → wordsOf (bytesOf ws) ≡ ws

@@ -5,7 +5,8 @@ use mathlib.Core.Path.{_≡_, ap, ap₂, _∙_}
 use mathlib.Core.List.{List, [], _∷_}
 use lib.ListN.{length, getD, take, set}
 use lib.Seq.{sets, sets-eq, take-at, length-take-le}
-use Rattle.endian.specs.Words.{littleEndian, wordsOf}
+use Rattle.rules.specs.Word.{littleEndian}
+use Rattle.endian.specs.Words.{wordsOf}
 use Rattle.theory.proofs.Image.{sets-append}
 use Rattle.endian.proofs.Chunks.{chunks-more, chunks-all}
 

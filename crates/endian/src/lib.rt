@@ -3,9 +3,10 @@ ghost use mathlib.Core.Path.{_≡_};
 ghost use Prim.Native.Nat.{_+_, _*_, _≤_};
 ghost use lib.ListN.{length};
 ghost use lib.Seq.{sets};
-ghost use Rattle.endian.specs.Words.{littleEndian, wordsOf, wordBytes, bytesOf};
+ghost use Rattle.rules.specs.Word.{littleEndian};
+ghost use Rattle.endian.specs.Words.{wordsOf, wordBytes, bytesOf};
 
-fn little_endian(a: u8, b: u8, c: u8, d: u8) -> u32
+pub fn little_endian(a: u8, b: u8, c: u8, d: u8) -> u32
     ensures { λ r. ⌜ r ≡ littleEndian a b c d ⌝ }
 {
     (a as u32) + (b as u32) * 0x100 + (c as u32) * 0x10000 + (d as u32) * 0x1000000

@@ -1,10 +1,11 @@
 -- The first fault of a command, from the masks of its row.
-use Prim.Native.Nat.{ℕ, _-_, _≤_}
+use Prim.Native.Nat.{ℕ, _≤_}
 use native.Mathlib.Omega.{arith}
 use mathlib.Core.Path.{_≡_, refl, ap, sym, _∙_}
 use mathlib.Core.Bool.{Bool, true, false, cond, not, _||_}
 use mathlib.Core.List.{List, [], _∷_}
 use lib.Dec.{eqb}
+use borrow.Author.Tests.{ne-eqb}
 use lib.ListN.{length, take}
 use Rattle.rules.specs.declared.Refusal.{Refusal}
 use Rattle.rules.specs.Word.{undefined}
@@ -109,7 +110,7 @@ first-fault m [] d p = refl
 first-fault m (f ∷ fs) d p =
     (elim (f .found) as (λ t. f .found ≡ t → cond t (bad (f .why)) (firstFault fs d)
     ≡ cond (eqb ((cond t (f .why) (firstRefusal fs)) .number) 0) d (bad (cond t (f .why) (firstRefusal fs)))) [
-      | true ↦ λ e. ap (λ (b : Bool). cond b d (bad (f .why))) (sym (not-zero (p .0 e)))
+      | true ↦ λ e. ap (λ (b : Bool). cond b d (bad (f .why))) (sym (ne-eqb (f .why .number) 0 (not-zero (p .0 e))))
       | false ↦ λ e. first-fault m fs d (p .1)
     ]) refl
 

@@ -41,33 +41,21 @@ pub fn measure(list: &[u32], image: &[u32]) -> Answer
     }
 }
 
-// Where a form might not fit, it is measured first.
-fn normalise_measured(list: &[u32], image: &[u32], out: &mut [u32]) -> Answer
-    ensures { λ r. ⌜ record { answer = r; image = now (image .entry); buffer = now (out .exit) } ≡ normalising (now (list .entry)) (now (image .entry)) (now (out .entry)) ⌝ }
-{
-    let a = measure(list, image);
-    if a.verdict != 0 {
-        return a;
-    }
-    if out.len() < a.words {
-        return list::no_room(list.len());
-    }
-    form(list, image, out);
-    a
-}
-
-// The normaliser: from a list, a starting image and an output buffer to the normal form, which never has more words than
-// its list.
+// The normaliser: from a list, a starting image and an output buffer to the normal form. A form never has more words than
+// its list: it is measured first only where the buffer is shorter than the list.
 pub fn normalise(list: &[u32], image: &[u32], out: &mut [u32]) -> Answer
     ensures { λ r. ⌜ record { answer = r; image = now (image .entry); buffer = now (out .exit) } ≡ normalising (now (list .entry)) (now (image .entry)) (now (out .entry)) ⌝ }
 {
-    if out.len() < list.len() {
-        return normalise_measured(list, image, out);
-    }
     let w = list::check(list, image);
     match w {
         Walked::Refused(f) => list::refuse(f),
         Walked::Accepted(commands, records) => {
+            if out.len() < list.len() {
+                let mut nothing = [0u32; 0];
+                if out.len() < form(list, image, &mut nothing) {
+                    return list::no_room(list.len());
+                }
+            }
             let words = form(list, image, out);
             list::accepted(list.len(), commands, records, words)
         }

@@ -17,6 +17,7 @@ use Rattle.rules.specs.Values.{refusal}
 use Rattle.rules.specs.Answer.{Outcome, answerWords, refusedAnswer, accept, fitting, writeParsed, reading, normalising, measuring}
 use Rattle.rules.specs.Pci.{pairsAll, values, parsePairs, toPci, fromPci}
 use Rattle.rules.specs.Session.{SessionOutcome, sessionWords, readingScenes}
+use Rattle.rules.specs.Swap.{wordsGot, readingIn, normalisingIn}
 use Rattle.theory.proofs.Numbers.{RefusesList, parse-refuses, pairs-refuses}
 use Rattle.theory.proofs.Parse.{parse-accepted}
 use Rattle.theory.proofs.Form.{form-fits}
@@ -25,6 +26,7 @@ use Rattle.theory.proofs.Pci.{pairs-length, pairs-carry}
 use Rattle.theory.proofs.Counts.{reading-counts}
 use Rattle.theory.proofs.Session.{scenes-sound}
 use Rattle.theory.proofs.Demands.{told-is-enough, told-never-longer}
+use Rattle.theory.proofs.Modes.{by-mode}
 use Rattle.answer.specs.FitsWords.{FitsWords}
 use Rattle.host.specs.Call.{callResult, answerResult, sessionResult}
 
@@ -40,10 +42,10 @@ fitting-fits ws image buffer false cs out left e few h =
     record { position = omega arith; commands = omega (arith, ap length e, n); records = omega (arith, ap length e, n); words = omega arith }
 
 module _ (ws image buffer : List ℕ) where
-  pub read-fits : {o : Outcome} → o ≡ reading ws image buffer → FitsWords (o .answer)
-  read-fits e =
+  reading-fits : FitsWords (reading ws image buffer .answer)
+  reading-fits =
       let c = reading-counts ws image buffer in
-      rw e (record { position = omega (arith, c .position); commands = omega (arith, c .commands); records = omega (arith, c .records); words = omega (arith, c .records, c .words) })
+      record { position = omega (arith, c .position); commands = omega (arith, c .commands); records = omega (arith, c .records); words = omega (arith, c .records, c .words) }
 
   -- a call that writes words made of the commands of a list
   write-fits : (made : List Command → List ℕ) (x : Parsed) → RefusesList 4098 x
@@ -55,10 +57,10 @@ module _ (ws image buffer : List ℕ) where
       fitting-fits ws image buffer (ltb (length buffer) (length (made cs))) cs (made cs) image (a .parses .words-are) (a .few)
       (omega (arith, a .few, h cs refl .1))
 
-  pub normalise-fits : {o : Outcome} → o ≡ normalising ws image buffer → FitsWords (o .answer)
+  normalising-fits : FitsWords (normalising ws image buffer .answer)
   unfolding normalising
-  normalise-fits e =
-      rw e (write-fits (λ cs. wordsAll (form image cs)) (parse image ws) (parse-refuses image ws) (λ cs p. (p, omega (arith, form-fits image ws cs p))))
+  normalising-fits =
+      write-fits (λ cs. wordsAll (form image cs)) (parse image ws) (parse-refuses image ws) (λ cs p. (p, omega (arith, form-fits image ws cs p)))
 
   pub to-pci-fits : {o : Outcome} → o ≡ toPci ws image buffer → FitsWords (o .answer)
   unfolding toPci
@@ -66,9 +68,20 @@ module _ (ws image buffer : List ℕ) where
       rw e (write-fits pairsAll (parse image ws) (parse-refuses image ws)
       (λ cs p. (p, omega (arith, pairs-length cs, ap length (parse-accepted image ws cs p .parses .words-are)))))
 
+module _ (ws image buffer : List ℕ) (mode : ℕ) where
+  no-mode-fits : 3 < mode → FitsWords (refusedAnswer (refusal 21 0))
+  no-mode-fits h = refused-fits (refusal 21 0) (omega arith)
+
+  pub read-fits : {o : Outcome} → o ≡ readingIn ws image buffer mode → FitsWords (o .answer)
+  read-fits e = rw e (by-mode reading ws image buffer mode (λ o. FitsWords (o .answer)) no-mode-fits (λ h. reading-fits (wordsGot mode ws) image buffer))
+
+  pub normalise-fits : {o : Outcome} → o ≡ normalisingIn ws image buffer mode → FitsWords (o .answer)
+  normalise-fits e =
+      rw e (by-mode normalising ws image buffer mode (λ o. FitsWords (o .answer)) no-mode-fits (λ h. normalising-fits (wordsGot mode ws) image buffer))
+
 -- as the normaliser answers where the buffer has the list's length
 pub measure-fits : (ws image : List ℕ) {a : Answer} → a ≡ measuring ws image → FitsWords a
-measure-fits ws image e = subst FitsWords (told-is-enough ws image ws (told-never-longer ws image) ∙ sym e) (normalise-fits ws image ws refl)
+measure-fits ws image e = subst FitsWords (told-is-enough ws image ws (told-never-longer ws image) ∙ sym e) (normalising-fits ws image ws)
 
 pub from-pci-fits : (ps image buffer : List ℕ) {o : Outcome} → o ≡ fromPci ps image buffer → FitsWords (o .answer)
 unfolding fromPci

@@ -1,21 +1,23 @@
 // The functions that C and Rust call (xp10.h).
 ghost use mathlib.Core.Path.{_≡_};
-ghost use Rattle.rules.specs.Answer.{reading, normalising, measuring};
+ghost use Rattle.rules.specs.Answer.{measuring};
 ghost use Rattle.rules.specs.Pci.{toPci, fromPci};
 ghost use Rattle.rules.specs.Session.{readingScenes};
+ghost use Rattle.rules.specs.Swap.{readingIn, normalisingIn};
 ghost use Rattle.host.specs.Call.{callResult, answerResult, sessionResult};
 
-// The reader.
+// The reader in a mode.
 #[no_mangle]
 pub extern "C" fn xp10_read(
     list: &[u32],
     image: &mut [u32],
     records: &mut [u32],
     answer: &mut [u32],
+    mode: u32,
 ) -> u32
-    ensures { λ r. ⌜ record { verdict = r; image = now (image .exit); buffer = now (records .exit); answer = now (answer .exit) } ≡ callResult (reading (now (list .entry)) (now (image .entry)) (now (records .entry))) (now (answer .entry)) ⌝ }
+    ensures { λ r. ⌜ record { verdict = r; image = now (image .exit); buffer = now (records .exit); answer = now (answer .exit) } ≡ callResult (readingIn (now (list .entry)) (now (image .entry)) (now (records .entry)) mode) (now (answer .entry)) ⌝ }
 {
-    let a = reader::read(list, image, records);
+    let a = swap::read(list, image, records, mode);
     answer::write(a, answer);
     a.verdict
 }
@@ -36,17 +38,18 @@ pub extern "C" fn xp10_read_scenes(
     s.answer.verdict
 }
 
-// The normaliser.
+// The normaliser in a mode.
 #[no_mangle]
 pub extern "C" fn xp10_normalise(
     list: &[u32],
     image: &[u32],
     out: &mut [u32],
     answer: &mut [u32],
+    mode: u32,
 ) -> u32
-    ensures { λ r. ⌜ record { verdict = r; image = now (image .entry); buffer = now (out .exit); answer = now (answer .exit) } ≡ callResult (normalising (now (list .entry)) (now (image .entry)) (now (out .entry))) (now (answer .entry)) ⌝ }
+    ensures { λ r. ⌜ record { verdict = r; image = now (image .entry); buffer = now (out .exit); answer = now (answer .exit) } ≡ callResult (normalisingIn (now (list .entry)) (now (image .entry)) (now (out .entry)) mode) (now (answer .entry)) ⌝ }
 {
-    let a = form::normalise(list, image, out);
+    let a = swap::normalise(list, image, out, mode);
     answer::write(a, answer);
     a.verdict
 }

@@ -1,9 +1,9 @@
 -- What a listing says of a list: its refusal, or a line for each record. Refusal 11 is never given.
-use Prim.Native.Nat.{ℕ, _+_, _%_, _≤_}
+use Prim.Native.Nat.{ℕ, _%_, _≤_}
 use native.Mathlib.Omega.{arith}
 use mathlib.Core.Path.{_≡_, refl, ap, _∙_}
 use mathlib.Core.List.{List, [], _∷_, _++_}
-use borrow.Author.Tests.{le-ltb, eq-eqb, eqb-false}
+use borrow.Author.Tests.{le-ltb, eq-eqb}
 use lib.ListN.{length}
 use Rattle.rules.specs.declared.Refusal.{Refusal}
 use Rattle.rules.specs.Command.{Command}
@@ -39,7 +39,7 @@ module _ (input image buffer : List ℕ) (few : length input ≤ 16384) (even : 
   unfolding reading
   refused-text f e =
       let p : Proper 4098 f = rw e at (parse-refuses image (wordsOf input)) in
-      ap textOf (read-is ∙ ap (readParsed (wordsOf input) image buffer) e) ∙ listed-refused _ _ (eqb-false (f .number) 0 (not-zero p))
+      ap textOf (read-is ∙ ap (readParsed (wordsOf input) image buffer) e) ∙ listed-refused _ _ (not-zero p)
 
   pub accepted-text : (cs : List Command) → parse image (wordsOf input) ≡ accepted cs → 16384 ≤ length buffer
       → textOf (readBytes input image buffer) ≡ ascii "at id words head\n"

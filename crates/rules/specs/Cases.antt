@@ -1,5 +1,5 @@
 -- Cases P1 to P12 and N1 to N4 (document 01, "Cases on each side", as document 02, Tickets 2 and 3, changes them), lists
--- measured, the masks of a list's words, the guide's own PCI writes, and sessions, in one table.
+-- measured, the masks of a list's words, the guide's own PCI writes, sessions, and lists in the other byte orders, in one table.
 use Prim.Native.Nat.{ℕ, zero, suc}
 use mathlib.Core.Bool.{Bool, true, _&&_, _||_}
 use mathlib.Core.List.{List, [], _∷_, _++_}
@@ -8,17 +8,20 @@ use lib.ListN.{length, getD, drop, replicate, set}
 use Rattle.rules.specs.declared.Refusal.{Refusal}
 use Rattle.rules.specs.Place.{wordMask}
 use Rattle.rules.specs.Form.{equal}
-use Rattle.rules.specs.Answer.{answerWords, Outcome, reading, normalising, measuring, written}
+use Rattle.rules.specs.Answer.{answerWords, Outcome, normalising, measuring, written}
 use Rattle.rules.specs.Pci.{toPci, fromPci}
 use Rattle.rules.specs.Session.{sessionWords, readingScenes}
+use Rattle.rules.specs.Swap.{readingIn, normalisingIn}
 
 -- what a case says of its list: its refusal, accepted with so many commands, accepted with a word of the new image,
--- accepted with a normal form, measured, its words' masks, accepted with its PCI writes; of its pairs: their refusal; or of the
--- words as a buffer of lists, with a table of them: the numbers told, the records written, and image word 02
+-- accepted with its records, accepted with a normal form, measured, its words' masks, accepted with its PCI writes; of its
+-- pairs: their refusal; or of the words as a buffer of lists, with a table of them: the numbers told, the records written, and
+-- image word 02
 pub data Want : Type 0 where
   refusedAs : Refusal → Want
   commands : ℕ → Want
   imageWord : ℕ → ℕ → Want
+  recordsAre : List ℕ → Want
   normalFormIs : List ℕ → Want
   measuredAs : List ℕ → Want
   masksAre : List ℕ → Want
@@ -29,6 +32,8 @@ pub data Want : Type 0 where
 pub record Case : Type 0 where
   pub list : List ℕ
   pub start : List ℕ
+  -- for the reader and the normaliser: the other calls have none
+  pub mode : ℕ
   pub want : Want
 
 -- "Buffers are large enough", but for the case of 11.
@@ -47,34 +52,36 @@ refuses : Refusal → List ℕ → Outcome → Bool
 refuses f image o = answered f o && (equal (o .image) image && equal (o .buffer) buffer)
 
 -- the reader and the normaliser give alike
-alike : (Outcome → Bool) → List ℕ → List ℕ → Bool
-alike p ws image = p (reading ws image buffer) && p (normalising ws image buffer)
+alike : (Outcome → Bool) → List ℕ → List ℕ → ℕ → Bool
+alike p ws image mode = p (readingIn ws image buffer mode) && p (normalisingIn ws image buffer mode)
 
-accepts : List ℕ → List ℕ → Bool
-accepts ws image =
-    alike (answered (told 0 (length ws) 32)) ws image && eqb (reading ws image buffer .answer .commands) (normalising ws image buffer .answer .commands)
+accepts : List ℕ → List ℕ → ℕ → Bool
+accepts ws image mode =
+    alike (answered (told 0 (length ws) 32)) ws image mode
+    && eqb (readingIn ws image buffer mode .answer .commands) (normalisingIn ws image buffer mode .answer .commands)
 
 -- the masks of a list's words from position p on
 abbrev masksFrom : List ℕ → ℕ → List ℕ → List ℕ
 masksFrom ws p [] = []
 masksFrom ws p (u ∷ us) = wordMask ws p ∷ masksFrom ws (suc p) us
 
--- a form is accepted too, and leaves the same image; behind pairs an odd last word is ignored
-holds : List ℕ → List ℕ → Want → Bool
-holds ws image (refusedAs f) = alike (refuses f image) ws image
-holds ws image (commands k) = accepts ws image && eqb (normalising ws image buffer .answer .commands) k
-holds ws image (imageWord i w) = accepts ws image && eqb (getD (reading ws image buffer .image) i 0) w
-holds ws image (normalFormIs us) =
-    (accepts ws image && equal (written (normalising ws image buffer)) us)
-    && (accepts us image && equal (reading us image buffer .image) (reading ws image buffer .image))
-holds ws image (measuredAs ns) = equal (answerWords (measuring ws image)) ns
-holds ws image (masksAre ms) = equal (masksFrom ws 0 ws) ms
-holds ws image (writesAre ps) =
+-- a form is accepted too, in mode 0, and leaves the same image; behind pairs an odd last word is ignored
+holds : List ℕ → List ℕ → ℕ → Want → Bool
+holds ws image mode (refusedAs f) = alike (refuses f image) ws image mode
+holds ws image mode (commands k) = accepts ws image mode && eqb (normalisingIn ws image buffer mode .answer .commands) k
+holds ws image mode (imageWord i w) = accepts ws image mode && eqb (getD (readingIn ws image buffer mode .image) i 0) w
+holds ws image mode (recordsAre rs) = accepts ws image mode && equal (written (readingIn ws image buffer mode)) rs
+holds ws image mode (normalFormIs us) =
+    (accepts ws image mode && equal (written (normalisingIn ws image buffer mode)) us)
+    && (accepts us image 0 && equal (readingIn us image buffer 0 .image) (readingIn ws image buffer mode .image))
+holds ws image mode (measuredAs ns) = equal (answerWords (measuring ws image)) ns
+holds ws image mode (masksAre ms) = equal (masksFrom ws 0 ws) ms
+holds ws image mode (writesAre ps) =
     (answered (told 0 (length ws) 32) (toPci ws image buffer) && equal (written (toPci ws image buffer)) ps)
     && (answered (told 0 (length ws) 32) (fromPci ps image buffer) && (equal (written (fromPci ps image buffer)) ws
     && equal (written (fromPci (ps ++ (0x2800 ∷ [])) image buffer)) ws))
-holds ps image (pairsRefusedAs f) = refuses f image (fromPci ps image buffer)
-holds ws image (sessionIs table numbers recs w) =
+holds ps image mode (pairsRefusedAs f) = refuses f image (fromPci ps image buffer)
+holds ws image mode (sessionIs table numbers recs w) =
     let s = readingScenes ws table image buffer in
     equal (sessionWords (s .session)) numbers && (equal (s .buffer) (recs ++ drop (length recs) buffer) && eqb (getD (s .image) 0x02 0) w)
 
@@ -86,13 +93,22 @@ measuredAlike ws image =
 unfoldable pub every : List Case → Bool
 unfolding holds accepts alike refuses answered measuredAlike
 every [] = true
-every (c ∷ cs) = (holds (c .list) (c .start) (c .want) && measuredAlike (c .list) (c .start)) && every cs
+every (c ∷ cs) = (holds (c .list) (c .start) (c .mode) (c .want) && measuredAlike (c .list) (c .start)) && every cs
 
 abbrev zeros : List ℕ
 zeros = replicate 256 0
 
+abbrev inMode : ℕ → List ℕ → List ℕ → Want → Case
+inMode mode image ws w = record { list = ws; start = image; mode = mode; want = w }
+
+abbrev from : List ℕ → List ℕ → Want → Case
+from = inMode 0
+
 abbrev fromZeros : List ℕ → Want → Case
-fromZeros ws w = record { list = ws; start = zeros; want = w }
+fromZeros = from zeros
+
+abbrev swapped : ℕ → List ℕ → Want → Case
+swapped mode = inMode mode zeros
 
 -- refused with a number at a word, or pairs at a pair, with no bit
 abbrev refusedAt : ℕ → ℕ → Want
@@ -160,7 +176,7 @@ cases =
     ∷ fromZeros (0x31800001 ∷ 0x02000005 ∷ []) (normalFormIs (0x02000005 ∷ 0x31800001 ∷ []))
     -- settings in rising id
     ∷ fromZeros (0x31000001 ∷ 0x30000001 ∷ 0x26000001 ∷ []) (normalFormIs (0x26000001 ∷ 0x30000001 ∷ 0x31000001 ∷ []))
-    ∷ record { list = n1; start = set zeros 0x02 0x20; want = normalFormIs (0x00000001 ∷ []) }
+    ∷ from (set zeros 0x02 0x20) n1 (normalFormIs (0x00000001 ∷ []))
     -- "2804_01000004 (reset 2D engine)" and "2920_48000000 (1st Dword)" with the next three (001, 3)
     ∷ fromZeros (0x01000004 ∷ []) (writesAre (0x2804 ∷ 0x01000004 ∷ []))
     ∷ fromZeros (0x48000000 ∷ 0 ∷ 0 ∷ 0 ∷ []) (writesAre (0x2920 ∷ 0x48000000 ∷ 0x2924 ∷ 0 ∷ 0x2928 ∷ 0 ∷ 0x292C ∷ 0 ∷ []))
@@ -188,9 +204,27 @@ cases =
     ∷ fromZeros scenes (sessionIs (0 ∷ 2 ∷ 6 ∷ 2 ∷ []) (20 ∷ 0 ∷ 2 ∷ 1 ∷ 4 ∷ 32 ∷ 1 ∷ []) flushRecord 0x10)
     ∷ fromZeros scenes (sessionIs (0xFFFFFFFF ∷ 1 ∷ []) (20 ∷ 0 ∷ 0 ∷ 0 ∷ 0 ∷ 32 ∷ 0 ∷ []) [] 0)
     ∷ fromZeros scenes (sessionIs (7 ∷ 0 ∷ 5 ∷ []) (0 ∷ 0 ∷ 0 ∷ 0 ∷ 0 ∷ 32 ∷ 1 ∷ []) [] 0)
-    ∷ record { list = scenes; start = []; want = sessionIs (8 ∷ 0 ∷ []) (20 ∷ 0 ∷ 0 ∷ 0 ∷ 0 ∷ 32 ∷ 0 ∷ []) [] 0 }
-    ∷ record { list = scenes; start = []; want = sessionIs (7 ∷ 0 ∷ []) (2 ∷ 0 ∷ 0 ∷ 0 ∷ 0 ∷ 32 ∷ 0 ∷ []) [] 0 }
-    ∷ record { list = scenes; start = []; want = sessionIs (5 ∷ []) (0 ∷ 0 ∷ 0 ∷ 0 ∷ 0 ∷ 32 ∷ 0 ∷ []) [] 0 }
+    ∷ from [] scenes (sessionIs (8 ∷ 0 ∷ []) (20 ∷ 0 ∷ 0 ∷ 0 ∷ 0 ∷ 32 ∷ 0 ∷ []) [] 0)
+    ∷ from [] scenes (sessionIs (7 ∷ 0 ∷ []) (2 ∷ 0 ∷ 0 ∷ 0 ∷ 0 ∷ 32 ∷ 0 ∷ []) [] 0)
+    ∷ from [] scenes (sessionIs (5 ∷ []) (0 ∷ 0 ∷ 0 ∷ 0 ∷ 0 ∷ 32 ∷ 0 ∷ []) [] 0)
     -- the 4,096th pair and the next
     ∷ fromZeros scenes (sessionIs (replicate 8194 0) (20 ∷ 0 ∷ 0 ∷ 0 ∷ 0 ∷ 32 ∷ 4096 ∷ []) [] 0)
+    -- one list in each byte order: image, form and records hold the words got
+    ∷ swapped 0 (0x02112233 ∷ []) (normalFormIs (0x02112233 ∷ []))
+    ∷ swapped 1 (0x11023322 ∷ []) (normalFormIs (0x02112233 ∷ []))
+    ∷ swapped 2 (0x22330211 ∷ []) (normalFormIs (0x02112233 ∷ []))
+    ∷ swapped 3 (0x33221102 ∷ []) (normalFormIs (0x02112233 ∷ []))
+    ∷ swapped 1 (0x11023322 ∷ []) (imageWord 0x02 0x112233)
+    ∷ swapped 2 (0x22330011 ∷ []) (recordsAre (0x00 ∷ 0 ∷ 1 ∷ 0x112233 ∷ []))
+    -- a payload is swapped too: as they stand, its words would be commands
+    ∷ swapped 3 (0x01000040 ∷ 0 ∷ 0 ∷ 0 ∷ 0x01000000 ∷ 0x02000000 ∷ 0x03000000 ∷ 0x04000000 ∷ [])
+    (normalFormIs (0x40000001 ∷ 0 ∷ 0 ∷ 0 ∷ 1 ∷ 2 ∷ 3 ∷ 4 ∷ []))
+    -- positions stay, and the bit is one of the word got
+    ∷ swapped 3 (0x10000002 ∷ 0x02000001 ∷ []) (refusedAs (told 6 1 1))
+    ∷ swapped 3 (replicate 4097 0) (refusedAt 1 4096)
+    -- a mode over 3, before all else
+    ∷ swapped 4 [] (refusedAt 21 0)
+    ∷ swapped 0xFFFFFFFF [] (refusedAt 21 0)
+    ∷ swapped 4 (replicate 4097 0) (refusedAt 21 0)
+    ∷ inMode 4 [] [] (refusedAt 21 0)
     ∷ []

@@ -13,4 +13,5 @@ pub mod Form
 pub mod Answer
 pub mod Pci
 pub mod Session
+pub mod Swap
 pub mod Cases

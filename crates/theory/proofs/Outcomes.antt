@@ -21,9 +21,9 @@ use Rattle.rules.specs.Form.{form}
 use Rattle.rules.specs.Answer.{Outcome, refusedAnswer, refusalOf, tellsBit, TellsLowest, refuse, accept, fitting, room, readParsed, writeParsed, measureParsed, reading, normalising, measuring, commandsOf, does, normalForm, written}
 use Rattle.rules.specs.Pci.{pairsAll, values, parsePairs, toPci, fromPci}
 use Rattle.rules.specs.Valid.{AllValid}
-use Rattle.theory.proofs.Bools.{neither}
-use Rattle.theory.proofs.Numbers.{not-zero, not-eleven, not-twenty, RefusesList, proper, parse-refuses}
-use Rattle.theory.proofs.Refusals.{OfRefusals, weaker, OfParsed, of-parse, of-pairs}
+use Rattle.theory.proofs.Bools.{not-both, or-right, neither}
+use Rattle.theory.proofs.Numbers.{never-number, not-zero, RefusesList, proper, parse-refuses}
+use Rattle.theory.proofs.Refusals.{notOfCall, OfRefusals, weaker, OfParsed, of-parse, of-pairs}
 use Rattle.theory.proofs.Parse.{parse-accepted}
 use Rattle.theory.proofs.Differing.{sets-outside}
 use Rattle.theory.proofs.Form.{form-accepted, form-fits, form-same, same-form, same-effect, normal-again}
@@ -116,13 +116,20 @@ unfolding fromPci
 of-from-pci P ps of image buffer =
     of-write P (values ps) of (λ cs. values ps) (values ps) image buffer (parsePairs image ps) (of-pairs P image ps (of .refusals))
 
--- 20 is about a pair of a table, and no answer of the reader
-pub reading-not-twenty : (ws image buffer : List ℕ) → reading ws image buffer .answer .verdict ≡ 20 → ⊥
-reading-not-twenty ws image buffer = of-reading (λ f. f .number ≡ 20 → ⊥) ws (record {
-  zero = λ p e. let z : _≡_ {A = ℕ} 0 20 = e in omega arith;
-  eleven = λ p e. let z : _≡_ {A = ℕ} 11 20 = e in omega arith;
-  refusals = weaker (λ f p. eqb-false (f .number) 20 (not-twenty p)) (proper ws);
-}) image buffer
+-- 20 and 21 are told by no call on a list without a mode
+module _ (k : ℕ) (t : notOfCall k ≡ true) (ws : List ℕ) where
+  never : OfAnswers (λ f. f .number ≡ k → ⊥) ws
+  never = record {
+    zero = λ p e. not-both (notOfCall k) t (ap notOfCall (sym e));
+    eleven = λ p e. not-both (notOfCall k) t (ap notOfCall (sym e));
+    refusals = weaker (λ f p. never-number p k (or-right (eqb k 0) _ (or-right (eqb k 11) _ t))) (proper ws);
+  }
+
+  pub reading-never : (image buffer : List ℕ) → reading ws image buffer .answer .verdict ≡ k → ⊥
+  reading-never = of-reading _ ws never
+
+  pub normalising-never : (image buffer : List ℕ) → normalising ws image buffer .answer .verdict ≡ k → ⊥
+  normalising-never = of-normalising _ ws never
 
 -- with 6 a bit of the word, with every other verdict 32
 tells : (l : List ℕ) → OfAnswers (λ f. tellsBit (refusedAnswer f) ≡ true) l
@@ -253,7 +260,7 @@ module _ (ws image buffer : List ℕ) where
   measured : (x : Parsed) → RefusesList 4098 x → Measured x (writeParsed made ws image buffer x)
   measured (refused f) r = (
     λ n. (refl, refl),
-    (λ e. absurd (eqb-false (f .number) 11 (not-eleven r) e), λ m. absurd (eqb-false (f .number) 0 (not-zero r) (m .0))),
+    (λ e. absurd (never-number r 11 refl e), λ m. absurd (not-zero r (m .0))),
   )
   measured (accepted cs) r =
       (elim (ltb (length buffer) (length (made cs))) as (λ t. ltb (length buffer) (length (made cs)) ≡ t

@@ -25,9 +25,13 @@ use Rattle.theory.proofs.Rows.{row-mask}
 use Rattle.theory.proofs.Lowest.{undefined-lowest, first-lowest}
 use Rattle.theory.proofs.Place.{any-default, mask-at, RefusedAt, refused-at}
 
--- 0 is acceptance, 11 is about a lent buffer, and 20 about a pair of a table
+-- 20 is about a pair of a table, and 21 about a mode
+abbrev pub notOfCall : ℕ → Bool
+notOfCall n = eqb n 20 || eqb n 21
+
+-- 0 is acceptance, and 11 about a lent buffer
 abbrev pub notOfList : ℕ → Bool
-notOfList n = eqb n 0 || (eqb n 11 || eqb n 20)
+notOfList n = eqb n 0 || (eqb n 11 || notOfCall n)
 
 -- a number that a list's refusal has, other than 6: it names no bit
 abbrev pub otherThanSix : ℕ → Bool

@@ -16,7 +16,7 @@ use Rattle.rules.specs.Values.{refusal}
 use Rattle.rules.specs.Answer.{Outcome, refusalOf, tellsBit, refuse, reading}
 use Rattle.rules.specs.Session.{SessionOutcome, opened, added, left, part, outside, pairCall, withPair, withPairOf, turn, readFrom, readingScenes, Bounded, asSession, SameApplied, firstPairs, nextPair, StopsAt}
 use Rattle.theory.proofs.Bools.{neither}
-use Rattle.theory.proofs.Outcomes.{reading-refuses, reading-not-twenty, reading-tells}
+use Rattle.theory.proofs.Outcomes.{reading-refuses, reading-never, reading-tells}
 use Rattle.theory.proofs.Counts.{Counts, counts-refused, reading-counts}
 
 -- ---- the call for a pair
@@ -57,13 +57,13 @@ module _ (ws : List ℕ) (start n lists : ℕ) (image buffer : List ℕ) where
   call-twenty = (
     (elim (outside ws start n lists) as (λ t. cond t (refuse (refusal 20 0) image buffer) (reading (part ws start n) image buffer) .answer .verdict ≡ 20 → t ≡ true) [
       | true ↦ λ e. refl
-      | false ↦ λ e. absurd (reading-not-twenty (part ws start n) image buffer e)
+      | false ↦ λ e. absurd (reading-never 20 refl (part ws start n) image buffer e)
     ]),
     λ e. ap (λ (t : Bool). cond t (refuse (refusal 20 0) image buffer) (reading (part ws start n) image buffer) .answer .verdict) e,
   )
 
   pub call-at-zero : pairCall ws start n lists image buffer .answer .verdict ≡ 20 → pairCall ws start n lists image buffer .answer .position ≡ 0
-  call-at-zero = by-call (λ o. o .answer .verdict ≡ 20 → o .answer .position ≡ 0) (λ e. refl) (λ t e. absurd (reading-not-twenty (part ws start n) image buffer e))
+  call-at-zero = by-call (λ o. o .answer .verdict ≡ 20 → o .answer .position ≡ 0) (λ e. refl) (λ t e. absurd (reading-never 20 refl (part ws start n) image buffer e))
 
   -- every other answer is the reader's
   pub call-reads : (pairCall ws start n lists image buffer .answer .verdict ≡ 20 → ⊥) → pairCall ws start n lists image buffer ≡ reading (part ws start n) image buffer

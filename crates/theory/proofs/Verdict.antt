@@ -5,7 +5,7 @@ use mathlib.Core.Path.{_≡_, refl, ap, _∙_}
 use mathlib.Core.Bool.{Bool, true, false}
 use mathlib.Core.List.{List, [], _∷_}
 use lib.Dec.{ltb}
-use borrow.Author.Tests.{eqb-false, ltb-false, le-ltb}
+use borrow.Author.Tests.{ltb-false, le-ltb}
 use lib.ListN.{length, drop}
 use lib.Seq.{take-append-seam}
 use Rattle.rules.specs.Command.{Command, wordsAll}
@@ -54,7 +54,7 @@ module _ (made : List Command → List ℕ) (ws image buffer : List ℕ) (x : Pa
     where
       by-parsed : (y : Parsed) → x ≡ y → RefusesList 4098 y → writeParsed made ws image buffer y .answer .verdict ≡ 0
           → Writes made ws image buffer x (writeParsed made ws image buffer x) (commandsOf y)
-      by-parsed (refused f) e q t = absurd (eqb-false (f .number) 0 (not-zero q) t)
+      by-parsed (refused f) e q t = absurd (not-zero q t)
       by-parsed (accepted cs) e q t =
           writes cs e (ltb-false (length buffer) (length (made cs)) (fitting-zero (ltb (length buffer) (length (made cs))) ws image buffer _ t))
 
@@ -75,7 +75,7 @@ module _ (image ws buffer : List ℕ) where
   normalises cs e h = writes (λ ds. wordsAll (form image ds)) ws image buffer (parse image ws) cs e h
 
   read-zero : (x : Parsed) → parse image ws ≡ x → RefusesList 4098 x → readParsed ws image buffer x .answer .verdict ≡ 0 → Reads image ws buffer (commandsOf x)
-  read-zero (refused f) e r z = absurd (eqb-false (f .number) 0 (not-zero r) z)
+  read-zero (refused f) e r z = absurd (not-zero r z)
   read-zero (accepted cs) e r z =
       reads cs e (ltb-false (room buffer) (length (records 0 cs)) (fitting-zero (ltb (room buffer) (length (records 0 cs))) ws image buffer _ z))
 

@@ -9,7 +9,8 @@ ghost use lib.ListN.{length};
 // the record, output and PCI buffers, and the digest.
 const FRONT: usize = 9;
 
-// The functions. A case with tag 0 is a list, for the first five; with tag 1 it is a session.
+// The functions. A case with tag 0 is a list, for the first five; with tag 1 it is a session; with tag 2 a list in a mode, its
+// argument, for the first two.
 const READER: usize = 0;
 
 const NORMALISER: usize = 1;
@@ -110,7 +111,17 @@ fn single(answer: Answer) -> SessionAnswer {
     SessionAnswer { answer, lists: 0 }
 }
 
-// A function on the case's words: a list, pairs, or with the arguments as a table the lists of a session.
+// The mode of a list's case; 0 where it has none.
+fn mode_of(arguments: &[u32]) -> u32 {
+    if arguments.len() == 0 {
+        0
+    } else {
+        arguments[0]
+    }
+}
+
+// A function on the case's words: a list, with its mode among the arguments, pairs, or with the arguments as a table the lists
+// of a session.
 fn call(
     function: usize,
     words: &[u32],
@@ -119,8 +130,8 @@ fn call(
     buffer: &mut [u32],
 ) -> SessionAnswer {
     match function {
-        READER => single(reader::read(words, image, buffer)),
-        NORMALISER => single(form::normalise(words, image, buffer)),
+        READER => single(swap::read(words, image, buffer, mode_of(arguments))),
+        NORMALISER => single(swap::normalise(words, image, buffer, mode_of(arguments))),
         TO_PCI => single(pci_writer::to_pci(words, image, buffer)),
         FROM_PCI => single(pci_reader::from_pci(words, image, buffer)),
         MEASURER => single(form::measure(words, image)),
@@ -185,8 +196,10 @@ fn run_function(
     )
 }
 
-// The digest of all functions on a list. Both directions of PCI writes have the same room, and the measurer has none.
+// The digest of the functions before `end` on a list. Both directions of PCI writes have the same room, and the measurer has
+// none.
 fn run_list(
+    end: usize,
     front: &[u32],
     words: &[u32],
     arguments: &[u32],
@@ -194,11 +207,11 @@ fn run_list(
     buffer: &mut [u32],
     tally: &mut [u32; TALLY],
 ) -> u32
-    requires { ⌜ 9 ≤ length (now front) ⌝ }
+    requires { ⌜ (end ≤ 5) × (9 ≤ length (now front)) ⌝ }
 {
     let mut digest = DIGEST;
     let mut k = READER;
-    while k < SCENES {
+    while k < end {
         let room = least(5 + k, 7);
         digest = run_function(
             k,
@@ -229,7 +242,7 @@ fn run_case(
 {
     let tag = front[0];
     match tag {
-        0 => run_list(front, words, arguments, image, buffer, tally),
+        0 => run_list(SCENES, front, words, arguments, image, buffer, tally),
         1 => run_function(
             SCENES,
             front,
@@ -241,6 +254,7 @@ fn run_case(
             DIGEST,
             tally,
         ),
+        2 => run_list(TO_PCI, front, words, arguments, image, buffer, tally),
         _ => DIGEST,
     }
 }

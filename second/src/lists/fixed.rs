@@ -4,7 +4,7 @@ use super::commands::{
     bits_of_word, clip, first_word, load_word, rows, table, valid, zeros, BEGINS, GROUPS,
     LEGAL_CODES, SURFACE_BASES,
 };
-use super::{pairs, plain, sessions, with_buffers, with_surroundings, Case, Image, Purpose};
+use super::{modes, pairs, plain, sessions, with_buffers, with_surroundings, Case, Image, Purpose};
 use crate::paper;
 use crate::prng::{self, Prng};
 use crate::rules::{self, Kind, Row, IMAGE_WORDS, MAX_LIST_WORDS};
@@ -92,7 +92,7 @@ fn sets() -> Vec<Set> {
 }
 
 /// Every list of the sets twice, with a zero image and room, and with other surroundings; then the cases
-/// with surroundings of their own, and the sessions.
+/// with surroundings of their own, the sessions, and the lists in a mode.
 pub fn fixed_cases() -> Vec<Case> {
     let mut cases = Vec::new();
     for set in sets() {
@@ -105,6 +105,7 @@ pub fn fixed_cases() -> Vec<Case> {
     cases.extend(paper_images());
     cases.extend(stored_whole());
     cases.extend(sessions::fixed_sessions());
+    cases.extend(modes::fixed_in_modes());
     cases
 }
 
@@ -823,7 +824,7 @@ fn form_lengths() -> Vec<Case> {
 }
 
 /// Settings that are changed back, hidden, or all in the form; before work, behind it, or both.
-fn short_and_whole_forms() -> Vec<Vec<u32>> {
+pub fn short_and_whole_forms() -> Vec<Vec<u32>> {
     let group = &[0x8C000001, 1, 2, 3][..];
     let (on, back, other) = (TIMER | 0x10, TIMER | 0x20, TIMER | 0x11);
     vec![

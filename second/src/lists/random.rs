@@ -47,7 +47,7 @@ pub fn any_refused_list(rng: &mut Prng, purpose: Purpose) -> Vec<u32> {
     }
 }
 
-fn any_length(rng: &mut Prng, purpose: Purpose) -> usize {
+pub fn any_length(rng: &mut Prng, purpose: Purpose) -> usize {
     match (purpose, rng.below(20)) {
         (Purpose::Store, _) => 1 + rng.below(14),
         (_, 0) => rng.below(600),

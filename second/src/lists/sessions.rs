@@ -23,7 +23,7 @@ const GOOD: [&[u32]; 4] = [
 ];
 
 /// A command for each of verdicts 5, 9, 3, 4, 6, 7, 15 to 19 and 10; the first two are cut short.
-const REFUSED: [&[u32]; 12] = [
+pub const REFUSED: [&[u32]; 12] = [
     &[0x84000000, 0x80000000, 0],
     &[0x40000001, 0, 0, 0, 0, 0, 0],
     &[0x06000000],
@@ -37,9 +37,9 @@ const REFUSED: [&[u32]; 12] = [
     &[0x40502400, 0, 0, 0],
     &[BASE, FLUSH],
 ];
-const CUT_SHORT: usize = 2;
+pub const CUT_SHORT: usize = 2;
 /// A command with an undefined bit.
-const UNDEFINED: u32 = 0x01000002;
+pub const UNDEFINED: u32 = 0x01000002;
 
 /// One with a zero image and room for all records.
 fn plain(class: &'static str, words: Vec<u32>, table: Vec<u32>) -> Case {

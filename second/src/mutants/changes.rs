@@ -1,7 +1,7 @@
 //! All the changes: of each part of the rules, of orders, of the clashes' numbers, of single page
-//! thresholds, of sessions, of answers and lent words, of the tool's runs.
+//! thresholds, of sessions, of the words got in a mode, of answers and lent words, of the tool's runs.
 
-use super::{clashes, effects, orders, runs, scenes, thresholds};
+use super::{clashes, effects, modes, orders, runs, scenes, thresholds};
 use crate::lists::{Case, CaseKind};
 use crate::outcome::{self, Function, Outcome};
 use crate::rules::{self, Rules, Run, Terms};
@@ -11,8 +11,9 @@ use crate::vary::Vary;
 pub struct Mutant {
     pub name: String,
     change: Change,
-    /// The function that the change is in, where it is one alone.
+    /// The function that the change is in, and the cases, where they are one alone.
     function: Option<Function>,
+    kind: Option<CaseKind>,
     /// The change is in what only the tool does.
     of_tool: bool,
 }
@@ -37,50 +38,65 @@ impl Mutant {
     pub fn of_rules(name: String, rules: Rules) -> Mutant {
         let function = changed_alone(&rules);
         let of_tool = Rules { tool: rules.tool.clone(), ..Rules::paper() } == rules;
-        Mutant { name, change: Change::Rules(Box::new(rules)), function, of_tool }
+        let change = Change::Rules(Box::new(rules));
+        Mutant { name, change, function, kind: None, of_tool }
     }
 
+    /// Of what all functions give for a list; sessions and lists in a mode are changed by themselves.
     pub fn of_outcome(
         name: String,
         change: impl Fn(Function, &Case, Outcome) -> Outcome + Sync + 'static,
     ) -> Mutant {
-        Mutant { name, change: Change::Outcome(Box::new(change)), function: None, of_tool: false }
+        let (change, kind) = (Change::Outcome(Box::new(change)), Some(CaseKind::List));
+        Mutant { name, change, function: None, kind, of_tool: false }
     }
 
+    /// Of what one function gives for a list, or for a session.
     pub fn of_outcome_of(
+        function: Function,
+        name: String,
+        change: impl Fn(&Case, Outcome) -> Outcome + Sync + 'static,
+    ) -> Mutant {
+        let kind = match function {
+            Function::Scenes => CaseKind::Session,
+            _ => CaseKind::List,
+        };
+        Mutant::of_outcome_for(kind, function, name, change)
+    }
+
+    pub fn of_outcome_for(
+        kind: CaseKind,
         function: Function,
         name: String,
         change: impl Fn(&Case, Outcome) -> Outcome + Sync + 'static,
     ) -> Mutant {
         let change = move |_, case: &Case, outcome| change(case, outcome);
         let change = Change::Outcome(Box::new(change));
-        Mutant { name, change, function: Some(function), of_tool: false }
+        Mutant { name, change, function: Some(function), kind: Some(kind), of_tool: false }
     }
 
     pub fn of_listing(name: &str, change: impl Fn(&[u8]) -> String + Sync + 'static) -> Mutant {
         let change = Change::Listing(Box::new(change));
-        Mutant { name: name.into(), change, function: None, of_tool: false }
+        Mutant { name: name.into(), change, function: None, kind: None, of_tool: false }
     }
 
     pub fn of_run(name: String, change: impl Fn(&RunCase, Run) -> Run + Sync + 'static) -> Mutant {
-        Mutant { name, change: Change::Run(Box::new(change)), function: None, of_tool: true }
+        let change = Change::Run(Box::new(change));
+        Mutant { name, change, function: None, kind: None, of_tool: true }
     }
 
-    /// The change may be in what the function gives. Outcomes of sessions are changed by themselves.
-    pub fn concerns(&self, function: Function) -> bool {
-        match (self.function, &self.change) {
-            _ if self.of_tool => false,
-            (Some(alone), _) => alone == function,
-            (None, Change::Outcome(_)) => function.kind() == CaseKind::List,
-            (None, _) => true,
-        }
+    /// The change may be in what the function gives for such a case.
+    pub fn concerns(&self, function: Function, kind: CaseKind) -> bool {
+        let of_function = self.function.is_none_or(|alone| alone == function);
+        let of_kind = self.kind.is_none_or(|alone| alone == kind);
+        of_function && of_kind && !self.of_tool
     }
 
     pub fn run(&self, function: Function, case: &Case) -> Outcome {
         let paper = rules::paper();
         match &self.change {
             Change::Rules(rules) => outcome::of(function, rules, case),
-            Change::Outcome(change) if self.concerns(function) => {
+            Change::Outcome(change) if self.concerns(function, case.kind) => {
                 change(function, case, outcome::of(function, paper, case))
             }
             _ => outcome::of(function, paper, case),
@@ -140,6 +156,7 @@ pub fn all() -> Vec<Mutant> {
     all.extend(clashes::all());
     all.extend(thresholds::all());
     all.extend(scenes::all());
+    all.extend(modes::all());
     all.extend(effects::all());
     all.extend(runs::all());
     all

@@ -20,19 +20,10 @@ const BIT: usize = 5;
 
 pub fn all() -> Vec<Mutant> {
     let mut all = Vec::new();
-    for function in CaseKind::List.functions() {
-        for verdict in function.verdicts() {
-            let name = format!("{}, verdict {verdict}", function.name());
-            let at = Place { function, verdict, name };
-            all.extend(numbers(&at));
-            all.extend(bits::of_verdict(&at));
-            if function.writes() {
-                all.extend(lent_words(&at));
-            }
-            match verdict {
-                0 => all.extend(accepted(&at)),
-                1 | 2 => {}
-                _ => all.extend(done_before_refusal(&at)),
+    for kind in [CaseKind::List, CaseKind::InMode] {
+        for function in kind.functions() {
+            for verdict in function.verdicts(kind) {
+                all.extend(of_place(&Place::new(kind, function, verdict)));
             }
         }
     }
@@ -47,19 +38,45 @@ pub fn all() -> Vec<Mutant> {
     all
 }
 
-/// The outcomes of one function with one verdict.
+fn of_place(at: &Place) -> Vec<Mutant> {
+    let mut all = numbers(at);
+    all.extend(bits::of_verdict(at));
+    if at.function.writes() {
+        all.extend(lent_words(at));
+    }
+    match at.verdict {
+        0 => all.extend(accepted(at)),
+        1 | 2 => {}
+        _ => all.extend(done_before_refusal(at)),
+    }
+    all
+}
+
+/// The outcomes of one function with one verdict, for cases of one kind.
 #[derive(Clone)]
 struct Place {
+    kind: CaseKind,
     function: Function,
     verdict: u32,
     name: String,
 }
 
 impl Place {
+    fn new(kind: CaseKind, function: Function, verdict: u32) -> Place {
+        let of_kind = if kind == CaseKind::InMode { " in a mode" } else { "" };
+        let name = format!("{}{of_kind}, verdict {verdict}", function.name());
+        Place { kind, function, verdict, name }
+    }
+
+    /// Of accepted lists, with a name of its own.
+    fn accepted(function: Function, name: String) -> Place {
+        Place { name, ..Place::new(CaseKind::List, function, 0) }
+    }
+
     fn change(&self, what: &str, change: impl Fn(&Case, &mut Outcome) + Sync + 'static) -> Mutant {
         let place = self.clone();
         let name = format!("{}: {what}", self.name);
-        Mutant::of_outcome_of(self.function, name, move |case, mut outcome| {
+        Mutant::of_outcome_for(self.kind, self.function, name, move |case, mut outcome| {
             if outcome.answer[0] == place.verdict {
                 change(case, &mut outcome);
             }
@@ -138,7 +155,8 @@ fn accepted(at: &Place) -> Vec<Mutant> {
 
 /// The form of a list, or of its commands before the refused one.
 fn form_of(case: &Case) -> Vec<u32> {
-    let commands = rules::paper().walk(&case.list).0;
+    let list = Function::Normaliser.list_of(case);
+    let commands = rules::paper().walk(&list).0;
     rules::paper().normal_form(&commands, &case.image.words())
 }
 
@@ -159,13 +177,14 @@ fn done_before_refusal(at: &Place) -> Vec<Mutant> {
     ];
     match function {
         Function::Reader => {
-            all.push(at.change("commands before it applied", |case, outcome| {
-                for command in paper.walk(&case.list).0 {
+            all.push(at.change("commands before it applied", move |case, outcome| {
+                for command in paper.walk(&function.list_of(case)).0 {
                     paper.apply(&command, &mut outcome.image);
                 }
             }));
-            all.push(at.change("records before it written", |case, outcome| {
-                put(&mut outcome.buffer, &paper.records(&paper.walk(&case.list).0).concat());
+            all.push(at.change("records before it written", move |case, outcome| {
+                let list = function.list_of(case);
+                put(&mut outcome.buffer, &paper.records(&paper.walk(&list).0).concat());
             }));
         }
         Function::Normaliser => {
@@ -208,7 +227,7 @@ impl Function {
 
 /// Each word of the image changed by an accepted list.
 fn image_words() -> Vec<Mutant> {
-    let at = Place { function: Function::Reader, verdict: 0, name: "reader, verdict 0".into() };
+    let at = Place::new(CaseKind::List, Function::Reader, 0);
     let changed = |k: usize| {
         at.change(&format!("image word {k:02X} changed"), move |_, outcome| outcome.image[k] ^= 1)
     };
@@ -217,7 +236,7 @@ fn image_words() -> Vec<Mutant> {
 
 /// Of several commands that set a word, the first decides.
 fn applied_from_the_end() -> Mutant {
-    let at = Place { function: Function::Reader, verdict: 0, name: "reader, verdict 0".into() };
+    let at = Place::new(CaseKind::List, Function::Reader, 0);
     at.change("commands applied from the list's end", |case, outcome| {
         outcome.image = case.image.words();
         for command in rules::paper().walk(&case.list).0.iter().rev() {

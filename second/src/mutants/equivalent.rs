@@ -273,6 +273,10 @@ const REASONS: &[Reason] = &[
         &["scenes: too many: tested: BehindImage"],
     ),
     (
+        "neither the reader's answer nor its records nor the image have a word of a payload",
+        &["reader in a mode: swapped: OwnWords"],
+    ),
+    (
         "no rule reads the image, and the listing doesn't show it",
         &["listing: starting word: 1, not 0"],
     ),

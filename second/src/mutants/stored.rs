@@ -72,7 +72,7 @@ impl Stored {
         }
         let differs = |(_, (case, parts)): &(usize, &Vector)| {
             let mut changed = *parts;
-            for function in case.kind.functions().filter(|f| mutant.concerns(*f)) {
+            for function in case.kind.functions().filter(|f| mutant.concerns(*f, case.kind)) {
                 changed[function as usize] = Part::of(function, &mutant.run(function, case));
             }
             vectors::digest_of(changed) != vectors::digest_of(*parts)
@@ -124,12 +124,13 @@ pub fn other_run(mutant: &Mutant, case: &RunCase, expected: &Run) -> Option<Stri
     }
 }
 
-/// The case's class, the first words of its list, and those of a session's table.
+/// The case's class, the first words of its list, and those of a session's table, or the mode.
 pub fn described(case: &Case) -> String {
     let list = format!("{} {}", case.class, first_words(&case.list, |word| format!("{word:08X}")));
     match case.kind {
         CaseKind::List => list,
         CaseKind::Session => list + " table " + &first_words(&case.arguments, u32::to_string),
+        CaseKind::InMode => format!("{list} mode {:X}", case.mode()),
     }
 }
 

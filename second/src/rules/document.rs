@@ -1,8 +1,9 @@
-//! Document 01, and Tickets 1 to 6 of document 02, as a value: each part under its sentence.
+//! Document 01, and Tickets 1 to 7 of document 02, as a value: each part under its sentence.
 
 use super::language::{Field, Mask, Quantity, Set, Test, Value};
 use super::scenes::*;
 use super::shape::*;
+use super::swap::*;
 use super::tool::tool;
 use crate::vary::parts;
 
@@ -11,6 +12,8 @@ pub const IMAGE_WORDS: usize = 256;
 pub const RECORD_WORDS: usize = 4;
 /// "every other verdict gives 32 there"
 pub const NO_BIT: u32 = 32;
+/// "Other calls use mode 0."
+pub const OTHER_CALLS: FixedMode = FixedMode::Unchanged;
 
 const ONE_FULL: &[u32] = &[0xFFFFFF];
 const FOUR_FULL: &[u32] = &[0xFFFFFF, 0xFFFFFFFF, 0xFFFFFFFF, 0xFFFFFFFF];
@@ -92,6 +95,7 @@ impl Rules {
             // BEGIN"
             base_may_end_list: true,
             base_lasts: BaseLasts::OneCommand,
+            swap: swap(),
             records: records(terms),
             form: terms.form.clone(),
             measure: measure(terms),
@@ -290,6 +294,25 @@ fn told_bit(terms: &Terms) -> ToldBit {
     }
 }
 
+/// "The list reader and the normaliser take a mode from 0 to 3"
+fn swap() -> Swap {
+    // "unchanged, bytes swapped in each half, halves swapped, all four bytes reversed"
+    let modes = [[0, 1, 2, 3], [1, 0, 3, 2], [2, 3, 0, 1], [3, 2, 1, 0]];
+    Swap {
+        modes: Modes(modes.map(Bytes).to_vec()),
+        mode_bits: Mask { bits: !0, width: 32 },
+        // "The word got at a position is now the swapped one, and every promise above it reads it so."
+        swapped: Swapped::EveryWord,
+        // "records, forms and image hold the words so got"
+        records: Held::Got,
+        image: Held::Got,
+        form: Held::Got,
+        // "21 for a mode over 3, at 0, before 1"
+        refused: check(21, Quantity::Mode.over(3), Position::At(0)),
+        asked: Asked::First,
+    }
+}
+
 /// "record or output buffer too small"
 fn room() -> Vec<Check> {
     vec![check(11, Quantity::Needed.more_than(Quantity::Room), Position::ListLength)]
@@ -331,6 +354,7 @@ fn form() -> Form {
 /// on refusal), with the normaliser's refusals except 11"
 fn measure(terms: &Terms) -> Measure {
     Measure {
+        mode: OTHER_CALLS,
         form: terms.form.clone(),
         from: MeasuredFrom::Given,
         told: Told::FormWords,
@@ -349,6 +373,7 @@ fn listing() -> Listing {
         ],
         // "reads standard input as little-endian words and starts from a zero image"
         byte_order: ByteOrder::Little,
+        mode: OTHER_CALLS,
         starting_word: 0,
         // "a header line, then a line per record: position decimal, id as two hex digits, length
         // decimal, header as six hex digits, lower case. The last line has the counts."
@@ -389,6 +414,7 @@ fn ids(members: &[u32]) -> Set {
 
 fn to_pci(terms: &Terms) -> ToPci {
     ToPci {
+        mode: OTHER_CALLS,
         id: terms.id,
         addresses: terms.addresses.clone(),
         // "BEGIN counts as a group"
@@ -402,6 +428,7 @@ fn to_pci(terms: &Terms) -> ToPci {
 fn from_pci(terms: &Terms) -> FromPci {
     use Position::{FirstWord, ThatWord};
     FromPci {
+        mode: OTHER_CALLS,
         pair_words: 2,
         address: 0,
         value: 1,
@@ -431,6 +458,7 @@ fn from_pci(terms: &Terms) -> FromPci {
 
 fn scenes() -> Scenes {
     Scenes {
+        mode: OTHER_CALLS,
         // "a table of start and length pairs"
         pair: vec![TableWord::Start, TableWord::Length],
         // "An odd last word of the table is ignored"

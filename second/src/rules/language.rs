@@ -86,7 +86,7 @@ choices! {
     pub enum Quantity {
         ListWords, ImageWords, WordsLeft, OwnWords, Length, Known, OnlyThroughPci, AfterBase,
         IsBegin, Needed, Room, InputBytes, SpareBytes, ImageBytes, PairNumber, TableWords,
-        TablePairs, ListStart, ListEnd, WrappedEnd, BufferWords
+        TablePairs, ListStart, ListEnd, WrappedEnd, BufferWords, Mode
     }
 }
 
@@ -118,6 +118,8 @@ pub struct Facts<'a> {
     pub addresses: &'a [Address],
     /// Of a session.
     pub pair: PairFacts,
+    /// In which the list is read.
+    pub mode: u32,
 }
 
 /// What is known of a pair of a session's table.
@@ -171,6 +173,7 @@ impl Facts<'_> {
             // In 32 bits.
             Quantity::WrappedEnd => return u64::from(self.pair.end as u32),
             Quantity::BufferWords => self.pair.buffer_words,
+            Quantity::Mode => return u64::from(self.mode),
         };
         number as u64
     }

@@ -1,7 +1,7 @@
 //! The text of the listing program.
 
 use super::document::{IMAGE_WORDS, MAX_LIST_WORDS, RECORD_WORDS};
-use super::{words_of, Column, Facts, Listing, Refusal, Rules, OTHER_ID};
+use super::{words_of, Column, Facts, Listing, Refusal, Rules, Source, OTHER_ID};
 
 impl Rules {
     /// What the listing program prints for its standard input.
@@ -19,10 +19,11 @@ impl Rules {
         self.pass(&self.listing.before_list, &OTHER_ID, 0, &facts)?;
 
         let list = words_of(input, self.listing.byte_order);
+        let list = self.words_got(self.listing.mode as u32, &list);
         let mut image = [self.listing.starting_word; IMAGE_WORDS];
         // Room for a record from every word, so that 11 is never given.
         let mut records = vec![0; RECORD_WORDS * MAX_LIST_WORDS];
-        let answer = self.try_read(&list, &mut image, &mut records)?;
+        let answer = self.try_read(&Source::of(&list), &mut image, &mut records)?;
 
         let Listing { title, between_columns, line_end, accepted, items, .. } = &self.listing;
         let mut text = format!("{title}{line_end}");

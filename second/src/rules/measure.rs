@@ -5,6 +5,7 @@ use super::{Answer, Command, Facts, MeasuredFrom, Refusal, RefusedTold, Rules, T
 
 impl Rules {
     pub fn measure(&self, list: &[u32], image: &[u32]) -> Answer {
+        let list = &self.words_got(self.measure.mode as u32, list);
         self.try_measure(list, image).unwrap_or_else(|refusal| Answer {
             words: self.told_of_refused(list, image) as u32,
             ..refusal.answer()

@@ -7,6 +7,7 @@ use super::{
 
 impl Rules {
     pub fn to_pci(&self, list: &[u32], image: &[u32], pairs: &mut [u32]) -> Answer {
+        let list = &self.words_got(self.to_pci.mode as u32, list);
         self.try_to_pci(list, image, pairs).unwrap_or_else(Refusal::answer)
     }
 
@@ -30,6 +31,7 @@ impl Rules {
     }
 
     pub fn from_pci(&self, pairs: &[u32], image: &[u32], list: &mut [u32]) -> Answer {
+        let pairs = &self.words_got(self.from_pci.mode as u32, pairs);
         self.try_from_pci(pairs, image, list).unwrap_or_else(Refusal::answer)
     }
 

@@ -3,7 +3,7 @@
 mod shape;
 
 use super::document::MAX_LIST_WORDS;
-use super::{put, Answer, Facts, Flip, PairFacts, Refusal, Rules, OTHER_ID, RECORD_WORDS};
+use super::{put, Answer, Facts, Flip, PairFacts, Refusal, Rules, Source, OTHER_ID, RECORD_WORDS};
 pub use shape::*;
 use std::slice;
 
@@ -25,7 +25,7 @@ impl Rules {
         let before = Lent { image: image.to_vec(), records: records.to_vec() };
         let mut session = Session {
             rules: self,
-            words,
+            words: &self.words_got(self.scenes.mode as u32, words),
             table,
             image,
             records,
@@ -269,7 +269,7 @@ impl Session<'_> {
             let mut image = self.image.to_vec();
             let mut room = self.records[self.written..].to_vec();
             let list = pair.list(self.words);
-            self.rules.try_read(list, &mut image, &mut room).map_err(of_list)?;
+            self.rules.try_read(&Source::of(list), &mut image, &mut room).map_err(of_list)?;
             return Err(refused);
         }
         if self.is_too_long(pair) {
@@ -295,6 +295,7 @@ impl Session<'_> {
         let (rules, scenes) = (self.rules, &self.rules.scenes);
         let list = pair.list(self.words);
         let after_base = self.after_base && scenes.order == ListOrder::CarriedOver;
+        let source = Source { after_base, ..Source::of(list) };
         let left = self.image.to_vec();
         if scenes.image == SceneImage::StartsAnew {
             self.image.copy_from_slice(&self.before.image);
@@ -302,9 +303,9 @@ impl Session<'_> {
         let read = match scenes.room {
             SceneRoom::StillLeft => {
                 let room = &mut self.records[self.written..];
-                rules.try_read_from(list, after_base, self.image, room)
+                rules.try_read(&source, self.image, room)
             }
-            SceneRoom::FromFront => rules.try_read_from(list, after_base, self.image, self.records),
+            SceneRoom::FromFront => rules.try_read(&source, self.image, self.records),
             SceneRoom::WholeBehind => self.read_with_room(list, self.records.len()),
             SceneRoom::LeftByFirst => {
                 let first = self.applied.first().map_or(0, |first| first.answer.words as usize);
@@ -325,7 +326,7 @@ impl Session<'_> {
     /// With this room, though less may be left.
     fn read_with_room(&mut self, list: &[u32], room: usize) -> Result<Answer, Refusal> {
         let mut records = vec![0; room];
-        let answer = self.rules.try_read(list, self.image, &mut records)?;
+        let answer = self.rules.try_read(&Source::of(list), self.image, &mut records)?;
         records.truncate(answer.words as usize);
         put(&mut self.records[self.written..], &records);
         Ok(answer)

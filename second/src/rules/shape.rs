@@ -3,12 +3,13 @@
 
 use super::language::{Facts, Field, Mask, Set, Test};
 use super::scenes::Scenes;
+use super::swap::{FixedMode, Swap};
 use super::tool::Tool;
 use crate::vary::{choices, parts};
 
 parts! {
-    /// The rules of reading, of the normal form and its length, of the listing, of the writes over PCI,
-    /// of sessions and of the tool.
+    /// The rules of reading, of the normal form and its length, of the byte orders, of the listing, of the
+    /// writes over PCI, of sessions and of the tool.
     pub struct Rules {
         pub id: Field,
         /// The header as the masks test it, and as the image holds it.
@@ -25,6 +26,7 @@ parts! {
         pub told_bit: ToldBit,
         pub base_may_end_list: bool,
         pub base_lasts: BaseLasts,
+        pub swap: Swap,
         pub records: Records,
         pub form: Form,
         pub measure: Measure,
@@ -277,6 +279,7 @@ choices! {
 parts! {
     /// The question for the form's length.
     pub struct Measure {
+        pub mode: FixedMode,
         pub form: Form,
         pub from: MeasuredFrom,
         pub told: Told,
@@ -307,6 +310,7 @@ parts! {
     pub struct Listing {
         pub before_list: Vec<Check>,
         pub byte_order: ByteOrder,
+        pub mode: FixedMode,
         pub starting_word: u32,
         pub title: String,
         pub columns: Vec<Column>,
@@ -365,6 +369,7 @@ choices! {
 parts! {
     /// The writer of pairs.
     pub struct ToPci {
+        pub mode: FixedMode,
         pub id: Field,
         pub addresses: Addresses,
         pub begin: BeginWords,
@@ -385,6 +390,7 @@ choices! {
 parts! {
     /// The reader of pairs.
     pub struct FromPci {
+        pub mode: FixedMode,
         pub pair_words: usize,
         /// Which words of a pair they are.
         pub address: usize,

@@ -47,6 +47,7 @@ impl Rules {
     pub fn run(&self, task: Task, input: &[u8], image: &[u8]) -> Run {
         let does = self.tool.does(task);
         let words = words_of(input, self.tool.input_order);
+        let words = self.words_got(self.tool.mode as u32, &words);
         let Recovered { given, values: list } = match does.reads {
             Reads::List => Recovered { given: Vec::new(), values: words.clone() },
             Reads::Pairs => self.from_pci.recovered(&words),

@@ -9,5 +9,5 @@ returns c = call-result (c .before .before .before .before .before .before .befo
 pub xp10-normalise-spec : {M : Type 1} → statement M
 xp10-normalise-spec =
     tie.close
-    (tie.spec (λ c κs. search needs) (λ c κs. normalise-fits _ _ _ (c .before .before .before .normalise .ensures))
+    (tie.spec (λ c κs. search needs) (λ c κs. normalise-fits _ _ _ _ (c .before .before .before .normalise .ensures))
     (λ c. search needs) (λ c. search needs) returns)

@@ -9,5 +9,5 @@ returns c = call-result (c .before .before .before .before .before .before .befo
 pub xp10-read-spec : {M : Type 1} → statement M
 xp10-read-spec =
     tie.close
-    (tie.spec (λ c κs. search needs) (λ c κs. read-fits _ _ _ (c .before .before .before .before .before .read .ensures))
+    (tie.spec (λ c κs. search needs) (λ c κs. read-fits _ _ _ _ (c .before .before .before .before .before .read .ensures))
     (λ c. search needs) (λ c. search needs) (λ c. search needs) returns)

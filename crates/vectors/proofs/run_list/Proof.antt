@@ -6,10 +6,10 @@ use Rattle.vectors.proofs.run_list.Statement.{statement}
 use Rattle.vectors.proofs.run_list.Tie as tie
 
 abbrev Inv-loop : tie.InvT-loop
-Inv-loop front words arguments image₀ buffer₀ tally₀ digest₀ k₀ image buffer tally digest k = (k ≤ 5) × ((length image ≡ length image₀) × (length buffer ≡ length buffer₀))
+Inv-loop end front words arguments image₀ buffer₀ tally₀ digest₀ k₀ image buffer tally digest k = (k ≤ end) × ((length image ≡ length image₀) × (length buffer ≡ length buffer₀))
 
 abbrev μ-loop : tie.MeasureT-loop
-μ-loop front words arguments image₀ buffer₀ tally₀ digest₀ k₀ image buffer tally digest k = 5 - k
+μ-loop end front words arguments image₀ buffer₀ tally₀ digest₀ k₀ image buffer tally digest k = end - k
 
 pub run-list-spec : {M : Type 1} → statement M
 run-list-spec =

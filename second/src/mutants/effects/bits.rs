@@ -1,6 +1,7 @@
 //! The bit of an answer, told otherwise.
 
 use super::{Mutant, Place, BIT, POSITION};
+use crate::lists::CaseKind;
 use crate::outcome::{self, Function};
 use crate::rules::{self, Row, Rules, When};
 use crate::vary::Vary;
@@ -83,7 +84,7 @@ fn bits_of_word(function: Function, row: &Row, k: usize) -> Vec<Mutant> {
     }
     let id = row.id;
     let name = format!("{}, verdict 6: word {k} of {id:02X}", function.name());
-    let at = Place { function, verdict: UNDEFINED, name };
+    let at = Place { name, ..Place::new(CaseKind::List, function, UNDEFINED) };
     let mutant = |bit: u32| {
         let what = if undefined >> bit & 1 == 1 { "overlooked" } else { "as an undefined one" };
         at.change(&format!("bit {bit} {what}"), move |case, outcome| {

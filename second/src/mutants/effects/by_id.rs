@@ -16,7 +16,7 @@ fn records_by_id() -> Vec<Mutant> {
     let mut all = Vec::new();
     for row in table(Kind::Work) {
         let name = format!("record of {:02X}", row.id);
-        let at = Place { function: Function::Reader, verdict: 0, name };
+        let at = Place::accepted(Function::Reader, name);
         for (k, word) in ["id", "position", "words"].into_iter().enumerate() {
             all.push(at.change_written(word, row.id, k, |word| word ^ 1));
         }
@@ -33,7 +33,7 @@ fn settings_by_id() -> Vec<Mutant> {
     let mut all = Vec::new();
     for row in table(Kind::Setting) {
         let name = format!("{:02X} in the form", row.id);
-        let at = Place { function: Function::Normaliser, verdict: 0, name };
+        let at = Place::accepted(Function::Normaliser, name);
         for k in 0..row.own_words() {
             for bit in defined_bits(row, k) {
                 let what = format!("word {k} without bit {bit}");
@@ -54,7 +54,7 @@ fn image_by_id() -> Vec<Mutant> {
             Leaves::AllWords(word) => (word, row.own_words()),
         };
         let (id, name) = (row.id, format!("image left by {:02X}", row.id));
-        let at = Place { function: Function::Reader, verdict: 0, name };
+        let at = Place::accepted(Function::Reader, name);
         let change = |what: &str, word: usize, change: Box<dyn Fn(u32) -> u32 + Sync>| {
             at.change(what, move |case, outcome| {
                 if rules::paper().walk(&case.list).0.iter().any(|c| c.row.id == id) {

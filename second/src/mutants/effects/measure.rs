@@ -29,9 +29,9 @@ fn other_rules() -> Vec<Mutant> {
 
 /// No part is changed of which only other functions know, and none of the measure's own.
 fn is_of_lists(rules: &Rules) -> bool {
-    let Rules { room_for_records, room_for_form, records, form, .. } = Rules::paper();
+    let Rules { room_for_records, room_for_form, swap, records, form, .. } = Rules::paper();
     let Rules { measure, listing, to_pci, from_pci, scenes, tool, .. } = Rules::paper();
-    let room = Rules { room_for_records, room_for_form, scenes, ..rules.clone() };
+    let room = Rules { room_for_records, room_for_form, swap, scenes, ..rules.clone() };
     Rules { records, form, measure, listing, to_pci, from_pci, tool, ..room } == *rules
 }
 
@@ -50,7 +50,7 @@ fn no_buffer_refused() -> Mutant {
 }
 
 fn accepted(name: String) -> Place {
-    Place { function: Function::Measure, verdict: 0, name }
+    Place::accepted(Function::Measure, name)
 }
 
 /// The words of the form's commands, each counted as `words` says.

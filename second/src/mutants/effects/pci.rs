@@ -1,7 +1,7 @@
 //! What the pairs of one id's words are, changed.
 
 use super::{Mutant, Place};
-use crate::lists::Case;
+use crate::lists::{Case, CaseKind};
 use crate::outcome::{self, Function, Outcome};
 use crate::rules::{self, put, Command};
 
@@ -14,10 +14,10 @@ pub fn all() -> Vec<Mutant> {
     for (id, k) in words() {
         let name = |function: &str| format!("{function}: word {k} of {id:02X}");
         if rules::paper().row_of(id).is_some() {
-            let at = Place { function: Function::ToPci, verdict: 0, name: name("to_pci") };
+            let at = Place::accepted(Function::ToPci, name("to_pci"));
             all.push(at.change_word("address", id, k, |at| 2 * at, 4));
             all.push(at.change_word("value", id, k, |at| 2 * at + 1, 1));
-            let at = Place { function: Function::FromPci, verdict: 0, name: name("from_pci") };
+            let at = Place::accepted(Function::FromPci, name("from_pci"));
             all.push(at.change_word("value", id, k, |at| at, 1));
         }
         let name = name("from_pci") + ": any address";
@@ -114,9 +114,9 @@ fn last_wrong_address(case: &Case, mut outcome: Outcome) -> Outcome {
 fn written_in_spite() -> Vec<Mutant> {
     let mut all = Vec::new();
     for function in [Function::ToPci, Function::FromPci] {
-        for verdict in function.verdicts().into_iter().filter(|verdict| *verdict != 0) {
-            let name = format!("{}, verdict {verdict}", function.name());
-            let at = Place { function, verdict, name };
+        let verdicts = function.verdicts(CaseKind::List).into_iter();
+        for verdict in verdicts.filter(|verdict| *verdict != 0) {
+            let at = Place::new(CaseKind::List, function, verdict);
             all.push(at.change("all words written", move |case, outcome| {
                 put(&mut outcome.buffer, &function.list_of(case));
             }));

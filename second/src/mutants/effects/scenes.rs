@@ -3,6 +3,7 @@
 use super::{
     bits, lent_words, numbers, Mutant, Place, COMMANDS, NUMBERS, POSITION, RECORDS, WORDS,
 };
+use crate::lists::CaseKind;
 use crate::outcome::{self, Function, Outcome};
 use crate::rules::{self, Rules};
 use crate::vary::Vary;
@@ -15,10 +16,8 @@ const IMAGE: u32 = 2;
 
 pub fn all() -> Vec<Mutant> {
     let mut all = Vec::new();
-    for verdict in Function::Scenes.verdicts() {
-        let function = Function::Scenes;
-        let name = format!("{}, verdict {verdict}", function.name());
-        let at = Place { function, verdict, name };
+    for verdict in Function::Scenes.verdicts(CaseKind::Session) {
+        let at = Place::new(CaseKind::Session, Function::Scenes, verdict);
         all.extend(numbers(&at));
         all.extend(bits::of_verdict(&at));
         all.extend(lent_words(&at));

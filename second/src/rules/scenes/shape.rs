@@ -1,11 +1,13 @@
 //! What the rules of sessions consist of.
 
 use super::super::language::Test;
+use super::super::swap::FixedMode;
 use crate::vary::{choices, parts};
 
 parts! {
     /// Several lists in one call.
     pub struct Scenes {
+        pub mode: FixedMode,
         pub pair: Vec<TableWord>,
         pub odd_word: SpareWord,
         pub turns: Turns,

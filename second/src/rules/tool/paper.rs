@@ -1,6 +1,7 @@
 //! The tool's paper, docs/TOOL.md, as a value: each part under its sentence.
 
 use super::shape::*;
+use crate::rules::document::OTHER_CALLS;
 use crate::rules::language::Quantity;
 use crate::rules::{ByteOrder, Check, Digits, Position, Recorded, Set, SettingOrder, Test, When};
 
@@ -26,6 +27,7 @@ pub fn tool() -> Tool {
         input_order: ByteOrder::Little,
         image_order: ByteOrder::Little,
         output_order: ByteOrder::Little,
+        mode: OTHER_CALLS,
         told_command: told_command(),
         settings: settings(),
         refused: refused(),

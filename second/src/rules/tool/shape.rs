@@ -1,6 +1,6 @@
 //! What the rules of the tool consist of.
 
-use crate::rules::{ByteOrder, Check, Digits, Recorded, Set, SettingOrder};
+use crate::rules::{ByteOrder, Check, Digits, FixedMode, Recorded, Set, SettingOrder};
 use crate::vary::{choices, parts};
 
 /// The tool's words that read a list or pairs.
@@ -35,6 +35,7 @@ parts! {
         pub input_order: ByteOrder,
         pub image_order: ByteOrder,
         pub output_order: ByteOrder,
+        pub mode: FixedMode,
         pub told_command: ToldCommand,
         pub settings: ShownSettings,
         /// The text of a refused list, and of an accepted one.
