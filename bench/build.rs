@@ -7,7 +7,7 @@ use std::process::Command;
 
 /// Copies the library of this folder to another folder, as `libbefore.a`, with `before_` ahead of what it exports.
 fn rename(folder: &Path, to: &Path) {
-    let functions = ["read", "read_scenes", "normalise", "measure", "to_pci", "from_pci"];
+    let functions = ["read", "read_scenes", "normalise", "measure", "to_pci", "from_pci", "find_scene", "write_book"];
     let renamed = functions.map(|name| format!("--redefine-sym=xp10_{name}=before_xp10_{name}"));
     let status =
         Command::new("objcopy").args(renamed).arg(folder.join("libhost.a")).arg(to.join("libbefore.a")).status();

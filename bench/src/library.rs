@@ -100,6 +100,51 @@ pub mod scenes {
     }
 }
 
+/// Scene books: of this build alone too.
+pub mod books {
+    pub fn find_scene(book: &[u32], number: u32, place: &mut [u32]) -> u32 {
+        extern "C" {
+            fn xp10_find_scene(
+                book: *const u32,
+                book_words: usize,
+                number: u32,
+                place: *mut u32,
+                place_words: usize,
+            ) -> u32;
+        }
+        // SAFETY: as above.
+        unsafe { xp10_find_scene(book.as_ptr(), book.len(), number, place.as_mut_ptr(), place.len()) }
+    }
+
+    pub fn write_book(table: &[u32], words: &[u32], book: &mut [u32], answer: &mut [u32]) -> u32 {
+        extern "C" {
+            fn xp10_write_book(
+                table: *const u32,
+                table_words: usize,
+                words: *const u32,
+                words_words: usize,
+                book: *mut u32,
+                book_words: usize,
+                answer: *mut u32,
+                answer_words: usize,
+            ) -> u32;
+        }
+        // SAFETY: as above.
+        unsafe {
+            xp10_write_book(
+                table.as_ptr(),
+                table.len(),
+                words.as_ptr(),
+                words.len(),
+                book.as_mut_ptr(),
+                book.len(),
+                answer.as_mut_ptr(),
+                answer.len(),
+            )
+        }
+    }
+}
+
 /// A build whose symbols start so.
 macro_rules! library {
     ($build:ident, $prefix:literal) => {

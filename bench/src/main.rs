@@ -1,6 +1,7 @@
 //! Times the proved library against safe Rust on the same lists, once their outputs were found equal, and where
 //! `BEFORE_LIB` was set against an earlier build of the library too.
 
+mod books;
 mod library;
 mod lists;
 mod pci;
@@ -315,11 +316,15 @@ fn main() {
     ];
     let compared = compare_commands() + groups.iter().map(|(_, lists)| compare_all(lists)).sum::<usize>();
     let sessions = scenes::compare(&short);
-    println!("outputs equal on {compared} lists and {sessions} sessions; best of {rounds} rounds, buffers not cleared between calls");
+    let long: Vec<_> = groups[..4].iter().flat_map(|(_, lists)| lists).cycle().take(books::SCENES).cloned().collect();
+    let short_book = &short[..books::SCENES];
+    let books = books::compare(short_book, &long);
+    println!("outputs equal on {compared} lists, {sessions} sessions and {books} books; best of {rounds} rounds, buffers not cleared between calls");
     print!("{:<40} {:>9} {:>9}  {:<12} {:>6}", "", "proved", "Rust", "", "ratio");
     println!("{}", if cfg!(before) { "    before  ratio" } else { "" });
     for (name, lists) in &groups {
         time_lists(rounds, name, lists);
     }
     scenes::time_dozens(rounds, &short);
+    books::time_books(rounds, short_book, &long);
 }

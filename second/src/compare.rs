@@ -1,64 +1,50 @@
 //! Counts of verdicts over many cases, and the comparison with the proved library.
 
-use crate::lists::{self, Case, CaseKind, Image};
-use crate::outcome::{self, Function};
+mod books;
+
+use crate::books as book_cases;
+use crate::cases::{self, AnyCase, Cases};
+use crate::lists::{Case, CaseKind, Image};
+use crate::outcome;
 use crate::rules;
 
-/// 8 is no longer given, and 12 is the listing program's alone. Those from 22 on are for later requests.
-const VERDICTS: usize = 33;
-
-/// How often each function gave each verdict.
-pub struct Tally([[u64; VERDICTS]; Function::ALL.len()]);
-
-impl Tally {
-    pub fn new() -> Tally {
-        Tally([[0; VERDICTS]; Function::ALL.len()])
-    }
-
-    pub fn add(&mut self, case: &Case) {
-        for function in case.kind.functions() {
-            self.count(function, outcome::of(function, rules::paper(), case).answer[0]);
-        }
-    }
-
-    fn count(&mut self, function: Function, verdict: u32) {
-        self.0[function as usize][verdict as usize] += 1;
-    }
-
-    /// A title and a line for each verdict, with numbers of at least this width.
-    pub fn lines(&self, width: usize) -> String {
-        let first = width.min(7);
-        let names = Function::ALL.map(|function| format!(" {:>width$}", function.name()));
-        let mut text = format!("{:>first$}{}\n", "verdict", names.concat());
-        for verdict in 0..VERDICTS {
-            let counts = self.0.map(|of_function| format!(" {:width$}", of_function[verdict]));
-            text += &format!("{verdict:first$}{}\n", counts.concat());
-        }
-        text
-    }
-}
-
 /// Counts the verdicts of the rules alone.
-pub fn count(cases: usize, seed: u64) {
-    let fixed = lists::fixed_cases();
-    let mut tally = Tally::new();
+pub fn count(number: usize, seed: u64) {
+    let cases = Cases::new();
+    let mut tally = cases::tally();
     let mut words = 0;
-    for index in 0..cases {
-        let case = lists::case(&fixed, index, seed);
-        tally.add(&case);
-        words += case.list.len();
+    for index in 0..number {
+        match cases.case(index, seed) {
+            AnyCase::List(case) => {
+                words += case.list.len();
+                for function in case.kind.functions() {
+                    let outcome = outcome::of(function, rules::paper(), &case);
+                    tally.count(function.name(), outcome.answer[0]);
+                }
+            }
+            AnyCase::Book(case) => {
+                words += case.words.len();
+                let outcome = book_cases::outcome(rules::paper(), &case);
+                tally.count(case.function.name(), outcome.verdict());
+            }
+        }
     }
     print!("{}", tally.lines(10));
-    println!("{cases} cases, {} of them fixed, {words} words", fixed.len().min(cases));
+    println!("{number} cases, {} of them fixed, {words} words", cases.fixed().min(number));
 }
 
 /// Prints a case and what the rules give for it.
 pub fn show(index: usize, seed: u64) {
-    let fixed = lists::fixed_cases();
-    let case = lists::case(&fixed, index, seed);
-    print_case(&case, usize::MAX);
+    match Cases::new().case(index, seed) {
+        AnyCase::List(case) => show_list(&case),
+        AnyCase::Book(case) => books::show(&case),
+    }
+}
+
+fn show_list(case: &Case) {
+    print_case(case, usize::MAX);
     for function in case.kind.functions() {
-        let outcome = outcome::of(function, rules::paper(), &case);
+        let outcome = outcome::of(function, rules::paper(), case);
         println!("{}: {:?}", function.name(), outcome.numbers());
         if function.writes() {
             let written = outcome.answer[4] as usize;
@@ -118,31 +104,38 @@ mod with_proved {
     use crate::outcome::{prefilled, Outcome};
     use crate::proved::{self, Call};
     use crate::rules::put;
+    use crate::tally::Tally;
 
     /// Differing cases that are written out.
     const SHOWN: u64 = 5;
     const LONGEST_SHOWN: usize = 256;
 
     /// Compares the rules with the proved library; true when nothing differs.
-    pub fn compare(cases: usize, seed: u64) -> bool {
-        let fixed = lists::fixed_cases();
-        let mut tally = Tally::new();
+    pub fn compare(number: usize, seed: u64) -> bool {
+        let cases = Cases::new();
+        let mut tally = cases::tally();
         let mut differing = 0;
-        for index in 0..cases {
-            let case = lists::case(&fixed, index, seed);
-            let found = compare_case(&case, answer_len(case.kind, index), &mut tally);
+        for index in 0..number {
+            let case = cases.case(index, seed);
+            let found = match &case {
+                AnyCase::List(case) => compare_case(case, answer_len(case.kind, index), &mut tally),
+                AnyCase::Book(case) => books::differences(case, index, &mut tally),
+            };
             if found.is_empty() {
                 continue;
             }
             differing += 1;
             if differing <= SHOWN {
                 println!("difference in case {index} of seed {seed}");
-                print_case(&case, LONGEST_SHOWN);
+                match &case {
+                    AnyCase::List(case) => print_case(case, LONGEST_SHOWN),
+                    AnyCase::Book(case) => books::print_case(case, LONGEST_SHOWN),
+                }
                 found.iter().for_each(|line| println!("  {line}"));
             }
         }
         print!("{}", tally.lines(10));
-        println!("{cases} cases, {} of them fixed", fixed.len().min(cases));
+        println!("{number} cases, {} of them fixed", cases.fixed().min(number));
         println!("{differing} differences");
         differing == 0
     }
@@ -163,7 +156,7 @@ mod with_proved {
         let mut found = Vec::new();
         for function in case.kind.functions() {
             let expected = outcome::of(function, rules::paper(), case);
-            tally.count(function, expected.answer[0]);
+            tally.count(function.name(), expected.answer[0]);
             let call = proved::call(function, case, answer_len);
             differences(function.name(), case, &expected, &call, &mut found);
         }

@@ -1,7 +1,9 @@
-//! A second implementation of document 01, with Tickets 1 to 7 of document 02, and of the tool, to
+//! A second implementation of document 01, with Tickets 1 to 8 of document 02, and of the tool, to
 //! compare with the proved one.
 
 mod agreement;
+mod books;
+mod cases;
 mod compare;
 mod listings;
 mod lists;
@@ -15,6 +17,7 @@ mod rules;
 mod runs;
 mod scene;
 mod self_test;
+mod tally;
 mod vary;
 mod vectors;
 
@@ -31,6 +34,7 @@ usage: second self-test          check the rules against the paper's cases and d
        second mutants FOLDER [NAME]   show which stored case sees each change of the rules, or each
                                  whose name begins with NAME; the crates' stored files are in FOLDER
        second vectors-crate FOLDER    write stdin and stdout of the crate `vectors`
+       second books-crate FOLDER write stdin and stdout of the crate `books`
        second listings FOLDER    write inputs and outputs of the listing program
        second listings-crate FOLDER   write stdin and stdout of the crate `listings`
        second listing            print the listing of standard input
@@ -57,6 +61,7 @@ fn run(words: &[&str]) -> io::Result<ExitCode> {
     match words {
         ["self-test"] => self_test(),
         ["vectors-crate", folder] => vectors::write_crate(Path::new(folder))?,
+        ["books-crate", folder] => books::write_crate(Path::new(folder))?,
         ["mutants", crates, front @ ..] if front.len() <= 1 => {
             if !mutants::report(Path::new(crates), front.first().unwrap_or(&""))? {
                 return Ok(ExitCode::FAILURE);

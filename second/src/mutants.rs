@@ -1,5 +1,6 @@
 //! Every single change of the rules, and the stored case of the gate that sees it.
 
+mod books;
 mod changes;
 mod clashes;
 mod effects;
@@ -11,12 +12,13 @@ mod scenes;
 mod stored;
 mod thresholds;
 
+use crate::books as book_cases;
 use crate::listings;
 use crate::lists::{self, Case, CaseKind, Purpose};
 use crate::outcome::{self, Function, Outcome};
 use crate::rules;
 use crate::runs as tool_runs;
-use changes::Mutant;
+use changes::{Area, Mutant};
 use std::io;
 use std::path::Path;
 use std::thread;
@@ -26,6 +28,8 @@ use stored::{By, Seen, Stored};
 const RANDOM_CASES: usize = 100_000;
 /// Random runs for such changes of the tool.
 const RANDOM_RUNS: u64 = 20_000;
+/// Random cases for such changes of books.
+const RANDOM_BOOKS: usize = 50_000;
 
 /// Prints what sees each change, or each whose name begins with `front`; true when each is seen or named
 /// with a reason, and none is both.
@@ -68,6 +72,7 @@ struct Tally {
     by_vectors: usize,
     by_listings: usize,
     by_runs: usize,
+    by_books: usize,
     named: usize,
     named_and_seen: usize,
     named_and_shown: usize,
@@ -82,6 +87,7 @@ impl Tally {
             By::Vectors => self.by_vectors += 1,
             By::Listings => self.by_listings += 1,
             By::Runs => self.by_runs += 1,
+            By::Books => self.by_books += 1,
         }
     }
 
@@ -93,11 +99,12 @@ impl Tally {
 
     /// True when all is as it has to be.
     fn print(&self) -> bool {
-        let Tally { by_vectors, by_listings, by_runs, named, missed, .. } = self;
-        let seen = by_vectors + by_listings + by_runs;
+        let Tally { by_vectors, by_listings, by_runs, by_books, named, missed, .. } = self;
+        let seen = by_vectors + by_listings + by_runs + by_books;
         println!("\n{} changes", seen + named + missed);
         println!(
-            "{seen} seen: {by_vectors} by vectors, {by_listings} by listings, {by_runs} by runs"
+            "{seen} seen: {by_vectors} by vectors, {by_listings} by listings, {by_runs} by runs, \
+             {by_books} by books"
         );
         println!("{named} that no list can show, each named with its reason");
         let faults = [
@@ -111,18 +118,39 @@ impl Tally {
     }
 }
 
-/// Runs changes on the fixed cases and many random ones, half of the changes on each of two threads;
+/// Runs changes on the fixed cases and many random ones, half of those of lists on each of two threads;
 /// how many of them some case shows.
 fn run_at_length(mutants: &[Mutant]) -> usize {
-    let of_tool: Vec<&Mutant> = mutants.iter().filter(|mutant| mutant.is_of_tool()).collect();
-    let mutants: Vec<&Mutant> = mutants.iter().filter(|mutant| !mutant.is_of_tool()).collect();
+    let of = |area: Area| -> Vec<&Mutant> {
+        mutants.iter().filter(|mutant| mutant.area == area).collect()
+    };
+    let of_lists = of(Area::Lists);
     let fixed = lists::fixed_cases();
-    let (first, second) = mutants.split_at(mutants.len() / 2);
+    let (first, second) = of_lists.split_at(of_lists.len() / 2);
     thread::scope(|scope| {
         let first = scope.spawn(|| shown(first, &fixed));
-        let of_rules = shown(second, &fixed) + first.join().expect("the changes run");
-        of_rules + shown_by_runs(&of_tool)
+        let by_lists = shown(second, &fixed) + first.join().expect("the changes run");
+        by_lists + shown_by_runs(&of(Area::Tool)) + shown_by_books(&of(Area::Books))
     })
+}
+
+fn shown_by_books(mutants: &[&Mutant]) -> usize {
+    let random = (0..RANDOM_BOOKS).map(|index| book_cases::random_case(index, 1));
+    let mut open = mutants.to_vec();
+    for case in book_cases::fixed_cases().into_iter().chain(random) {
+        if open.is_empty() {
+            break;
+        }
+        let expected = book_cases::outcome(rules::paper(), &case);
+        open.retain(|mutant| {
+            let other = stored::other_book(mutant, &case, &expected);
+            if let Some(difference) = &other {
+                println!("{}: shown by {difference}", mutant.name);
+            }
+            other.is_none()
+        });
+    }
+    mutants.len() - open.len()
 }
 
 fn shown_by_runs(mutants: &[&Mutant]) -> usize {

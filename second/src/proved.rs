@@ -1,5 +1,7 @@
 //! The proved library's functions, called with words around each lent slice that must stay.
 
+pub mod books;
+
 use crate::lists::Case;
 use crate::outcome::{prefilled, Function, Outcome};
 use crate::rules::ANSWER_WORDS;

@@ -1,11 +1,12 @@
 //! Reading, normalising and listing by document 01, with PCI writes by Ticket 1 of document 02, the
 //! bit and the clashes told by Tickets 2 and 6, the page thresholds by Ticket 3, the form's length told
-//! by Ticket 4, several lists in one call by Ticket 5, and lists of another byte order by Ticket 7; and
-//! what the tool says and writes, by its own paper.
+//! by Ticket 4, several lists in one call by Ticket 5, lists of another byte order by Ticket 7, and scene
+//! books by Ticket 8; and what the tool says and writes, by its own paper.
 //!
 //! What the documents fix stands in `document` as a value of `Rules`; here is what they say to do
 //! with it. Nothing may panic for a `Rules` with one part changed, so that `mutants` can run it.
 
+mod books;
 mod document;
 mod form;
 mod language;
@@ -20,6 +21,7 @@ mod tool;
 use std::ops::Range;
 use std::sync::LazyLock;
 
+pub use books::*;
 pub use document::{Terms, IMAGE_WORDS, MAX_LIST_WORDS, NO_BIT, RECORD_WORDS};
 pub use language::{
     Address, Comparison, Facts, Field, Mask, PairFacts, Quantity, Set, Test, Value,

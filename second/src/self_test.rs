@@ -1,6 +1,7 @@
 //! Checks of the rules: the paper's cases, and on random lists demand 3, the bit told, the form's length
-//! told, sessions and lists in a mode.
+//! told, sessions and lists in a mode; and scene books.
 
+mod books;
 mod modes;
 mod scenes;
 
@@ -14,7 +15,7 @@ use crate::rules::{self, Answer, Refusal, Task, IMAGE_WORDS, NO_BIT, RECORD_WORD
 use crate::runs;
 
 /// Each panics when it fails.
-pub const CHECKS: [(&str, fn()); 20] = [
+pub const CHECKS: [(&str, fn()); 23] = [
     ("cases of document 01", paper_cases),
     ("the guide's writes", guide_writes),
     ("page thresholds", page_thresholds),
@@ -33,6 +34,9 @@ pub const CHECKS: [(&str, fn()); 20] = [
     ("the same words in every mode", modes::same_words),
     ("demand 3 in a mode", modes::demand_3),
     ("21 before all else", modes::over_3_first),
+    ("scene books", books::by_hand),
+    ("books there and back", books::there_and_back),
+    ("one set of scenes, one book", books::one_book),
     ("the tool's texts", tool_texts),
     ("the tool and the functions", tool_and_functions),
 ];
@@ -528,6 +532,21 @@ mod tests {
     #[test]
     fn over_3_first() {
         super::modes::over_3_first();
+    }
+
+    #[test]
+    fn books_by_hand() {
+        super::books::by_hand();
+    }
+
+    #[test]
+    fn books_there_and_back() {
+        super::books::there_and_back();
+    }
+
+    #[test]
+    fn one_book() {
+        super::books::one_book();
     }
 
     #[test]

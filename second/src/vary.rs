@@ -3,6 +3,7 @@
 //! `variants` gives every single change of a value, each with a name that says where it is and what
 //! it is. Structs declared by `parts!` and enums declared by `choices!` get theirs by themselves.
 
+mod books;
 mod language;
 mod shape;
 mod swap;

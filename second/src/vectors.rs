@@ -3,12 +3,12 @@
 //! For each case: tag, number of words, number of arguments, image seed, image length, record buffer
 //! length, output buffer length, PCI buffer length, digest, then the words and the arguments.
 
-use crate::compare::Tally;
 use crate::listings::bytes;
 use crate::lists::{self, Case, Image, Purpose};
 use crate::outcome::{self, Function, Outcome};
 use crate::prng::Prng;
 use crate::rules;
+use crate::tally::Tally;
 use std::fs;
 use std::io;
 use std::path::Path;
@@ -48,8 +48,13 @@ pub fn write_crate(folder: &Path) -> io::Result<()> {
 /// The cases with their digests, and the counts of verdicts.
 pub fn crate_files() -> (Vec<u8>, String) {
     let cases = stored_cases();
-    let mut tally = Tally::new();
-    cases.iter().for_each(|case| tally.add(case));
+    let mut tally = Tally::new(&Function::ALL.map(Function::name));
+    for case in &cases {
+        for function in case.kind.functions() {
+            let outcome = outcome::of(function, rules::paper(), case);
+            tally.count(function.name(), outcome.answer[0]);
+        }
+    }
     let words: Vec<u32> = cases.iter().flat_map(case_words).collect();
     let text = format!("vectors {}\ndifferences 0\n{}", cases.len(), tally.lines(0));
     (bytes(&words), text)

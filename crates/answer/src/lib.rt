@@ -1,5 +1,7 @@
 // An answer as words for a caller.
 use rules::Answer;
+use rules::BookAnswer;
+use rules::SceneAnswer;
 use rules::SessionAnswer;
 use words::put;
 ghost use mathlib.Core.Path.{_≡_};
@@ -7,6 +9,7 @@ ghost use Prim.Native.Nat.{_^_, _<_};
 ghost use lib.Seq.{sets};
 ghost use Rattle.rules.specs.Answer.{answerWords};
 ghost use Rattle.rules.specs.Session.{sessionWords};
+ghost use Rattle.rules.specs.Book.{placeWords, bookAnswerWords};
 ghost use Rattle.answer.specs.FitsWords.{FitsWords};
 
 // The six numbers of an answer, as many as there is room for.
@@ -29,4 +32,21 @@ pub fn write_session(s: SessionAnswer, answer: &mut [u32])
 {
     write(s.answer, answer);
     put(answer, 6, s.lists as u32);
+}
+
+// Where a scene is in its book: the start and the length.
+pub fn write_place(a: SceneAnswer, place: &mut [u32])
+    ensures { λ _. ⌜ now (place .exit) ≡ sets (now (place .entry)) 0 (placeWords a) ⌝ }
+{
+    put(place, 0, a.start);
+    put(place, 1, a.length);
+}
+
+// The verdict of a book's writer, and the words written.
+pub fn write_book_answer(a: BookAnswer, answer: &mut [u32])
+    requires { ⌜ a .words < 2 ^ 32 ⌝ }
+    ensures { λ _. ⌜ now (answer .exit) ≡ sets (now (answer .entry)) 0 (bookAnswerWords a) ⌝ }
+{
+    put(answer, 0, a.verdict);
+    put(answer, 1, a.words as u32);
 }

@@ -18,6 +18,8 @@ use Rattle.rules.specs.Answer.{Outcome, answerWords, refusedAnswer, accept, fit
 use Rattle.rules.specs.Pci.{pairsAll, values, parsePairs, toPci, fromPci}
 use Rattle.rules.specs.Session.{SessionOutcome, sessionWords, readingScenes}
 use Rattle.rules.specs.Swap.{wordsGot, readingIn, normalisingIn}
+use Rattle.rules.specs.declared.SceneAnswer.{SceneAnswer}
+use Rattle.rules.specs.Book.{BookOutcome, placeWords, bookAnswerWords, writingBook}
 use Rattle.theory.proofs.Numbers.{RefusesList, parse-refuses, pairs-refuses}
 use Rattle.theory.proofs.Parse.{parse-accepted}
 use Rattle.theory.proofs.Form.{form-fits}
@@ -27,8 +29,9 @@ use Rattle.theory.proofs.Counts.{reading-counts}
 use Rattle.theory.proofs.Session.{scenes-sound}
 use Rattle.theory.proofs.Demands.{told-is-enough, told-never-longer}
 use Rattle.theory.proofs.Modes.{by-mode}
+use Rattle.theory.proofs.Book.{words-few}
 use Rattle.answer.specs.FitsWords.{FitsWords}
-use Rattle.host.specs.Call.{callResult, answerResult, sessionResult}
+use Rattle.host.specs.Call.{callResult, answerResult, sessionResult, placeResult, bookResult}
 
 refused-fits : (f : Refusal) → f .word ≤ 16384 → FitsWords (refusedAnswer f)
 refused-fits f h = record { position = omega arith; commands = omega arith; records = omega arith; words = omega arith }
@@ -104,6 +107,9 @@ session-fits ws table image buffer e =
       omega (arith, b .lists),
     )
 
+pub book-fits : (table ws buffer : List ℕ) {o : BookOutcome} → o ≡ writingBook table ws buffer → o .answer .words < 2 ^ 32
+book-fits table ws buffer e = rw e (omega (arith, words-few table ws buffer))
+
 pub call-result : {o p : Outcome} {after : List ℕ} (answer : List ℕ) → o ≡ p → after ≡ sets answer 0 (answerWords (o .answer))
     → record { verdict = o .answer .verdict; image = o .image; buffer = o .buffer; answer = after } ≡ callResult p answer
 call-result answer e t = rw t (ap (λ (x : Outcome). callResult x answer) e)
@@ -115,3 +121,11 @@ answer-result answer e t = rw t (ap (λ (x : Answer). answerResult x answer) e)
 pub session-result : {o p : SessionOutcome} {after : List ℕ} (answer : List ℕ) → o ≡ p → after ≡ sets answer 0 (sessionWords (o .session))
     → record { verdict = o .session .answer .verdict; image = o .image; buffer = o .buffer; answer = after } ≡ sessionResult p answer
 session-result answer e t = rw t (ap (λ (x : SessionOutcome). sessionResult x answer) e)
+
+pub place-result : {a b : SceneAnswer} {after : List ℕ} (place : List ℕ) → a ≡ b → after ≡ sets place 0 (placeWords a)
+    → record { verdict = a .verdict; answer = after } ≡ placeResult b place
+place-result place e t = rw t (ap (λ (x : SceneAnswer). placeResult x place) e)
+
+pub book-result : {o p : BookOutcome} {after : List ℕ} (answer : List ℕ) → o ≡ p → after ≡ sets answer 0 (bookAnswerWords (o .answer))
+    → record { verdict = o .answer .verdict; book = o .buffer; answer = after } ≡ bookResult p answer
+book-result answer e t = rw t (ap (λ (x : BookOutcome). bookResult x answer) e)

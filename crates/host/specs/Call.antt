@@ -5,6 +5,8 @@ use lib.Seq.{sets}
 use Rattle.rules.specs.declared.Answer.{Answer}
 use Rattle.rules.specs.Answer.{Outcome, answerWords}
 use Rattle.rules.specs.Session.{SessionOutcome, sessionWords}
+use Rattle.rules.specs.declared.SceneAnswer.{SceneAnswer}
+use Rattle.rules.specs.Book.{BookOutcome, placeWords, bookAnswerWords}
 
 -- what a call returns, and the lent words after it
 pub record CallResult : Type 0 where
@@ -30,3 +32,16 @@ pub record AnswerResult : Type 0 where
 
 abbrev pub answerResult : Answer → List ℕ → AnswerResult
 answerResult a answer = record { verdict = a .verdict; answer = sets answer 0 (answerWords a) }
+
+-- the same of a scene asked for: its start and its length go to the place's words
+abbrev pub placeResult : SceneAnswer → List ℕ → AnswerResult
+placeResult a place = record { verdict = a .verdict; answer = sets place 0 (placeWords a) }
+
+-- of a book written, with the answer's two numbers
+pub record BookResult : Type 0 where
+  pub verdict : ℕ
+  pub book : List ℕ
+  pub answer : List ℕ
+
+abbrev pub bookResult : BookOutcome → List ℕ → BookResult
+bookResult o answer = record { verdict = o .answer .verdict; book = o .buffer; answer = sets answer 0 (bookAnswerWords (o .answer)) }

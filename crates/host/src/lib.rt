@@ -4,7 +4,8 @@ ghost use Rattle.rules.specs.Answer.{measuring};
 ghost use Rattle.rules.specs.Pci.{toPci, fromPci};
 ghost use Rattle.rules.specs.Session.{readingScenes};
 ghost use Rattle.rules.specs.Swap.{readingIn, normalisingIn};
-ghost use Rattle.host.specs.Call.{callResult, answerResult, sessionResult};
+ghost use Rattle.rules.specs.Book.{findingScene, writingBook};
+ghost use Rattle.host.specs.Call.{callResult, answerResult, sessionResult, placeResult, bookResult};
 
 // The reader in a mode.
 #[no_mangle]
@@ -91,5 +92,30 @@ pub extern "C" fn xp10_from_pci(
 {
     let a = pci_reader::from_pci(pairs, image, list);
     answer::write(a, answer);
+    a.verdict
+}
+
+// Where a scene of a book is.
+#[no_mangle]
+pub extern "C" fn xp10_find_scene(book: &[u32], number: u32, place: &mut [u32]) -> u32
+    ensures { λ r. ⌜ record { verdict = r; answer = now (place .exit) } ≡ placeResult (findingScene (now (book .entry)) number) (now (place .entry)) ⌝ }
+{
+    let a = book::find(book, number);
+    answer::write_place(a, place);
+    a.verdict
+}
+
+// The book of a table's scenes.
+#[no_mangle]
+pub extern "C" fn xp10_write_book(
+    table: &[u32],
+    words: &[u32],
+    book: &mut [u32],
+    answer: &mut [u32],
+) -> u32
+    ensures { λ r. ⌜ record { verdict = r; book = now (book .exit); answer = now (answer .exit) } ≡ bookResult (writingBook (now (table .entry)) (now (words .entry)) (now (book .entry))) (now (answer .entry)) ⌝ }
+{
+    let a = book::write_book(table, words, book);
+    answer::write_book_answer(a, answer);
     a.verdict
 }

@@ -1,5 +1,6 @@
 -- Cases P1 to P12 and N1 to N4 (document 01, "Cases on each side", as document 02, Tickets 2 and 3, changes them), lists
--- measured, the masks of a list's words, the guide's own PCI writes, sessions, and lists in the other byte orders, in one table.
+-- measured, the masks of a list's words, the guide's own PCI writes, sessions, lists in the other byte orders, and scene books, in
+-- one table.
 use Prim.Native.Nat.{ℕ, zero, suc}
 use mathlib.Core.Bool.{Bool, true, _&&_, _||_}
 use mathlib.Core.List.{List, [], _∷_, _++_}
@@ -12,11 +13,13 @@ use Rattle.rules.specs.Answer.{answerWords, Outcome, normalising, measur
 use Rattle.rules.specs.Pci.{toPci, fromPci}
 use Rattle.rules.specs.Session.{sessionWords, readingScenes}
 use Rattle.rules.specs.Swap.{readingIn, normalisingIn}
+use Rattle.rules.specs.Book.{findingScene, stretch, writingBook}
 
 -- what a case says of its list: its refusal, accepted with so many commands, accepted with a word of the new image,
 -- accepted with its records, accepted with a normal form, measured, its words' masks, accepted with its PCI writes; of its
--- pairs: their refusal; or of the words as a buffer of lists, with a table of them: the numbers told, the records written, and
--- image word 02
+-- pairs: their refusal; of the words as a buffer of lists, with a table of them: the numbers told, the records written, and
+-- image word 02; of the words as a book, asked for a scene: the verdict, and the stretch with its start; or of the words as a
+-- buffer of bodies, with a table of them: the verdict, and the book written
 pub data Want : Type 0 where
   refusedAs : Refusal → Want
   commands : ℕ → Want
@@ -28,6 +31,8 @@ pub data Want : Type 0 where
   writesAre : List ℕ → Want
   pairsRefusedAs : Refusal → Want
   sessionIs : List ℕ → List ℕ → List ℕ → ℕ → Want
+  sceneIs : ℕ → ℕ → ℕ → List ℕ → Want
+  bookIs : List ℕ → ℕ → List ℕ → Want
 
 pub record Case : Type 0 where
   pub list : List ℕ
@@ -84,6 +89,12 @@ holds ps image mode (pairsRefusedAs f) = refuses f image (fromPci ps image buffe
 holds ws image mode (sessionIs table numbers recs w) =
     let s = readingScenes ws table image buffer in
     equal (sessionWords (s .session)) numbers && (equal (s .buffer) (recs ++ drop (length recs) buffer) && eqb (getD (s .image) 0x02 0) w)
+holds ws image mode (sceneIs number verdict start body) =
+    let a = findingScene ws number in
+    (eqb (a .verdict) verdict && eqb (a .start) start) && (eqb (a .length) (length body) && equal (stretch ws a) body)
+holds ws image mode (bookIs table verdict book) =
+    let o = writingBook table ws buffer in
+    eqb (o .answer .verdict) verdict && (eqb (o .answer .words) (length book) && equal (o .buffer) (book ++ drop (length book) buffer))
 
 -- "it equals what the normaliser gives .. wherever that isn't 11"
 measuredAlike : List ℕ → List ℕ → Bool
@@ -139,6 +150,21 @@ flipRecords = flushRecord ++ (0x21 ∷ 2 ∷ 1 ∷ 0x000000 ∷ [])
 -- that of its fourth, as the first of a list
 abbrev nextRecord : List ℕ
 nextRecord = 0x00 ∷ 0 ∷ 1 ∷ 0x000002 ∷ []
+
+-- scenes 2 and 7, of two words and of one
+abbrev book : List ℕ
+book = 2 ∷ 2 ∷ 7 ∷ 2 ∷ 7 ∷ 9 ∷ 1 ∷ 0xA ∷ 0xB ∷ 0xC ∷ []
+
+-- the same bodies in a buffer where the second stands first, and a table of them
+abbrev loose : List ℕ
+loose = 0xC ∷ 0xA ∷ 0xB ∷ []
+
+abbrev looseTable : List ℕ
+looseTable = 2 ∷ 1 ∷ 2 ∷ 7 ∷ 0 ∷ 1 ∷ []
+
+-- a book's refusal, told for a scene that it would have
+abbrev bookRefused : List ℕ → ℕ → Case
+bookRefused ws n = fromZeros ws (sceneIs 2 n 0 [])
 
 unfoldable pub cases : List Case
 cases =
@@ -227,4 +253,49 @@ cases =
     ∷ swapped 0xFFFFFFFF [] (refusedAt 21 0)
     ∷ swapped 4 (replicate 4097 0) (refusedAt 21 0)
     ∷ inMode 4 [] [] (refusedAt 21 0)
+    -- each scene of a book, numbers below, between and above, and a book of no entries
+    ∷ fromZeros book (sceneIs 2 0 7 (0xA ∷ 0xB ∷ []))
+    ∷ fromZeros book (sceneIs 7 0 9 (0xC ∷ []))
+    ∷ fromZeros book (sceneIs 1 25 0 [])
+    ∷ fromZeros book (sceneIs 3 25 0 [])
+    ∷ fromZeros book (sceneIs 8 25 0 [])
+    ∷ bookRefused (0 ∷ []) 25
+    -- a scene without words is found; numbers are unsigned
+    ∷ fromZeros (2 ∷ 2 ∷ 7 ∷ 0 ∷ 0xFFFFFFFF ∷ 7 ∷ 1 ∷ 5 ∷ []) (sceneIs 2 0 7 [])
+    ∷ fromZeros (2 ∷ 2 ∷ 7 ∷ 0 ∷ 0xFFFFFFFF ∷ 7 ∷ 1 ∷ 5 ∷ []) (sceneIs 0xFFFFFFFF 0 7 (5 ∷ []))
+    -- 22: no first word, a table cut short, 257 entries; 256 are not
+    ∷ bookRefused [] 22
+    ∷ bookRefused (1 ∷ 2 ∷ 4 ∷ []) 22
+    ∷ bookRefused (257 ∷ replicate 771 0) 22
+    ∷ bookRefused (256 ∷ replicate 768 0) 23
+    -- 23: numbers that are equal or fall, also where a body is out of place before
+    ∷ bookRefused (2 ∷ 2 ∷ 7 ∷ 0 ∷ 2 ∷ 7 ∷ 1 ∷ 5 ∷ []) 23
+    ∷ bookRefused (2 ∷ 2 ∷ 8 ∷ 0 ∷ 1 ∷ 7 ∷ 1 ∷ 5 ∷ []) 23
+    -- 24: words left over, a gap, starts counted from the bodies, a body past the end, bodies that overlap
+    ∷ bookRefused (0 ∷ 1 ∷ []) 24
+    ∷ bookRefused (1 ∷ 2 ∷ 5 ∷ 1 ∷ 0 ∷ 0 ∷ []) 24
+    ∷ bookRefused (1 ∷ 2 ∷ 0 ∷ 1 ∷ 0 ∷ []) 24
+    ∷ bookRefused (1 ∷ 2 ∷ 4 ∷ 2 ∷ 0 ∷ []) 24
+    ∷ bookRefused (2 ∷ 2 ∷ 7 ∷ 2 ∷ 7 ∷ 8 ∷ 1 ∷ 0xA ∷ 0xB ∷ 0xC ∷ []) 24
+    -- the longest body, and one word more
+    ∷ fromZeros (1 ∷ 2 ∷ 4 ∷ 4096 ∷ replicate 4096 5) (sceneIs 2 0 4 (replicate 4096 5))
+    ∷ bookRefused (1 ∷ 2 ∷ 4 ∷ 4097 ∷ replicate 4097 5) 24
+    -- a book written: starts are computed; of no entries; of one body twice
+    ∷ fromZeros loose (bookIs looseTable 0 book)
+    ∷ fromZeros loose (bookIs [] 0 (0 ∷ []))
+    ∷ fromZeros loose (bookIs (3 ∷ 1 ∷ 1 ∷ 4 ∷ 1 ∷ 1 ∷ []) 0 (2 ∷ 3 ∷ 7 ∷ 1 ∷ 4 ∷ 8 ∷ 1 ∷ 0xA ∷ 0xA ∷ []))
+    -- the table's refusals in their order, each over all entries before the next, and no room last
+    ∷ fromZeros loose (bookIs (2 ∷ 9 ∷ []) 22 [])
+    ∷ fromZeros loose (bookIs (replicate 771 0) 22 [])
+    ∷ fromZeros loose (bookIs (replicate 768 0) 23 [])
+    ∷ fromZeros loose (bookIs (7 ∷ 9 ∷ 9 ∷ 7 ∷ 0 ∷ 1 ∷ []) 23 [])
+    ∷ fromZeros loose (bookIs (2 ∷ 1 ∷ 3 ∷ []) 24 [])
+    ∷ fromZeros loose (bookIs (2 ∷ 0xFFFFFFFF ∷ 1 ∷ []) 24 [])
+    ∷ fromZeros (replicate 4097 5) (bookIs (2 ∷ 0 ∷ 4097 ∷ []) 24 [])
+    ∷ fromZeros (replicate 4097 5) (bookIs (2 ∷ 0 ∷ 4096 ∷ []) 11 [])
+    -- just room, and one word less; a body without words at the buffer's end, and behind it
+    ∷ fromZeros (replicate 12 5) (bookIs (2 ∷ 0 ∷ 12 ∷ []) 0 (1 ∷ 2 ∷ 4 ∷ 12 ∷ replicate 12 5))
+    ∷ fromZeros (replicate 13 5) (bookIs (2 ∷ 0 ∷ 13 ∷ []) 11 [])
+    ∷ fromZeros loose (bookIs (2 ∷ 3 ∷ 0 ∷ []) 0 (1 ∷ 2 ∷ 4 ∷ 0 ∷ []))
+    ∷ fromZeros loose (bookIs (2 ∷ 4 ∷ 0 ∷ []) 24 [])
     ∷ []

@@ -14,4 +14,5 @@ pub mod Answer
 pub mod Pci
 pub mod Session
 pub mod Swap
+pub mod Book
 pub mod Cases

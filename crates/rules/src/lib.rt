@@ -28,3 +28,23 @@ pub struct SessionAnswer {
     pub answer: Answer,
     pub lists: usize,
 }
+
+// Of a book, "Each entry is three words: scene number, start, length."
+pub struct Entry {
+    pub number: u32,
+    pub start: usize,
+    pub length: usize,
+}
+
+// The verdict of a question for a scene, and where in the book its words are.
+pub struct SceneAnswer {
+    pub verdict: u32,
+    pub start: u32,
+    pub length: u32,
+}
+
+// The verdict of a book's writer, and the words written.
+pub struct BookAnswer {
+    pub verdict: u32,
+    pub words: usize,
+}

@@ -22,3 +22,6 @@ pub mod Bytes
 pub mod Swap
 pub mod Modes
 pub mod Walk
+pub mod Contents
+pub mod Scenes
+pub mod Book

@@ -2,7 +2,16 @@
 // compares a digest of all that these give. A wrong digest, and so a damaged file, shows as a difference.
 use rules::Answer;
 use rules::SessionAnswer;
-ghost use Prim.Native.Nat.{_+_, _<_, _≤_};
+use stored::DIGEST;
+use stored::fill_buffer;
+use stored::least;
+use stored::mix;
+use stored::mix_number;
+use stored::mix_words;
+use stored::next_words;
+use stored::print_column;
+use stored::print_line;
+ghost use Prim.Native.Nat.{_<_, _≤_};
 ghost use lib.ListN.{length};
 
 // The words in front of a case: its tag, how many words and arguments it has, the image's seed and length, the lengths of
@@ -34,33 +43,7 @@ const DIFFERENCES: usize = CASES + 1;
 
 const TALLY: usize = CASES + 2;
 
-fn least(a: usize, b: usize) -> usize
-    ensures { λ r. ⌜ (r ≤ a) × (r ≤ b) ⌝ }
-{
-    if a < b { a } else { b }
-}
-
 // ---- digests
-
-const DIGEST: u32 = 0x811C9DC5;
-
-fn mix(digest: u32, word: u32) -> u32 {
-    (((digest as u64) * 16777619 + (word as u64)) % 4294967296) as u32
-}
-
-fn mix_number(digest: u32, n: usize) -> u32 {
-    mix(digest, (n % 4294967296) as u32)
-}
-
-fn mix_words(start: u32, words: &[u32]) -> u32 {
-    let mut digest = start;
-    let mut i = 0;
-    while i < words.len() {
-        digest = mix(digest, words[i]);
-        i += 1;
-    }
-    digest
-}
 
 fn mix_answer(digest: u32, a: Answer) -> u32 {
     let front = mix_number(mix(digest, a.verdict), a.position);
@@ -86,16 +69,6 @@ fn fill_image(image: &mut [u32], seed: u32) {
     while i < image.len() {
         x = xorshift(x);
         image[i] = x;
-        i += 1;
-    }
-}
-
-fn fill_buffer(buffer: &mut [u32]) {
-    let mut w = 0xA5000000;
-    let mut i = 0;
-    while i < buffer.len() {
-        buffer[i] = w;
-        w = std::num::wrapping_add_u32(w, 1);
         i += 1;
     }
 }
@@ -261,21 +234,6 @@ fn run_case(
 
 // ---- the program
 
-fn print_number(n: u32) {
-    io::print_decimal(1, n as u64);
-}
-
-fn print_line(name: &[u8], n: u32) {
-    io::write_all(1, name);
-    print_number(n);
-    io::write_all(1, b"\n");
-}
-
-fn print_column(n: u32) {
-    io::write_all(1, b" ");
-    print_number(n);
-}
-
 // The count of a verdict from each function.
 fn print_row(tally: &[u32; TALLY], verdict: usize)
     requires { ⌜ verdict < 33 ⌝ }
@@ -301,20 +259,6 @@ fn print(tally: &[u32; TALLY]) {
         print_row(tally, v);
         v += 1;
     }
-}
-
-// The next words of standard input, by way of a buffer for their bytes.
-fn load_words(bytes: &mut [u8], words: &mut [u32]) -> usize {
-    let n = io::read_full(0, bytes);
-    endian::load(&bytes[..n], words);
-    n / 4
-}
-
-// The same, at most 8,200.
-fn next_words(words: &mut [u32]) -> usize {
-    let mut bytes = [0u8; 32800];
-    let n = 4 * least(words.len(), 8200);
-    load_words(&mut bytes[..n], words)
 }
 
 // The next case; false where there is none.

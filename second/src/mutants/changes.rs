@@ -1,7 +1,8 @@
 //! All the changes: of each part of the rules, of orders, of the clashes' numbers, of single page
-//! thresholds, of sessions, of the words got in a mode, of answers and lent words, of the tool's runs.
+//! thresholds, of sessions, of the words got in a mode, of answers and lent words, of the tool's runs, of books.
 
-use super::{clashes, effects, modes, orders, runs, scenes, thresholds};
+use super::{books as other_books, clashes, effects, modes, orders, runs, scenes, thresholds};
+use crate::books;
 use crate::lists::{Case, CaseKind};
 use crate::outcome::{self, Function, Outcome};
 use crate::rules::{self, Rules, Run, Terms};
@@ -14,8 +15,17 @@ pub struct Mutant {
     /// The function that the change is in, and the cases, where they are one alone.
     function: Option<Function>,
     kind: Option<CaseKind>,
-    /// The change is in what only the tool does.
-    of_tool: bool,
+    pub area: Area,
+}
+
+/// What a change can show in.
+#[derive(Clone, Copy, Debug, PartialEq, Eq)]
+pub enum Area {
+    /// Lists, and through them the listing and the tool.
+    Lists,
+    /// What only the tool does.
+    Tool,
+    Books,
 }
 
 enum Change {
@@ -23,6 +33,7 @@ enum Change {
     Outcome(Box<OutcomeChange>),
     Listing(Box<ListingChange>),
     Run(Box<RunChange>),
+    Book(Box<BookChange>),
 }
 
 /// What the documents give for a case, changed.
@@ -34,12 +45,15 @@ pub type ListingChange = dyn Fn(&[u8]) -> String + Sync;
 /// What the tool's paper gives for a run, changed.
 pub type RunChange = dyn Fn(&RunCase, Run) -> Run + Sync;
 
+/// What the documents give for a case of books, changed.
+pub type BookChange = dyn Fn(&books::Case, books::Outcome) -> books::Outcome + Sync;
+
 impl Mutant {
     pub fn of_rules(name: String, rules: Rules) -> Mutant {
         let function = changed_alone(&rules);
-        let of_tool = Rules { tool: rules.tool.clone(), ..Rules::paper() } == rules;
+        let area = area_of(&rules);
         let change = Change::Rules(Box::new(rules));
-        Mutant { name, change, function, kind: None, of_tool }
+        Mutant { name, change, function, kind: None, area }
     }
 
     /// Of what all functions give for a list; sessions and lists in a mode are changed by themselves.
@@ -48,7 +62,7 @@ impl Mutant {
         change: impl Fn(Function, &Case, Outcome) -> Outcome + Sync + 'static,
     ) -> Mutant {
         let (change, kind) = (Change::Outcome(Box::new(change)), Some(CaseKind::List));
-        Mutant { name, change, function: None, kind, of_tool: false }
+        Mutant { name, change, function: None, kind, area: Area::Lists }
     }
 
     /// Of what one function gives for a list, or for a session.
@@ -72,24 +86,32 @@ impl Mutant {
     ) -> Mutant {
         let change = move |_, case: &Case, outcome| change(case, outcome);
         let change = Change::Outcome(Box::new(change));
-        Mutant { name, change, function: Some(function), kind: Some(kind), of_tool: false }
+        Mutant { name, change, function: Some(function), kind: Some(kind), area: Area::Lists }
     }
 
     pub fn of_listing(name: &str, change: impl Fn(&[u8]) -> String + Sync + 'static) -> Mutant {
         let change = Change::Listing(Box::new(change));
-        Mutant { name: name.into(), change, function: None, kind: None, of_tool: false }
+        Mutant { name: name.into(), change, function: None, kind: None, area: Area::Lists }
     }
 
     pub fn of_run(name: String, change: impl Fn(&RunCase, Run) -> Run + Sync + 'static) -> Mutant {
         let change = Change::Run(Box::new(change));
-        Mutant { name, change, function: None, kind: None, of_tool: true }
+        Mutant { name, change, function: None, kind: None, area: Area::Tool }
+    }
+
+    pub fn of_book(
+        name: String,
+        change: impl Fn(&books::Case, books::Outcome) -> books::Outcome + Sync + 'static,
+    ) -> Mutant {
+        let change = Change::Book(Box::new(change));
+        Mutant { name, change, function: None, kind: None, area: Area::Books }
     }
 
     /// The change may be in what the function gives for such a case.
     pub fn concerns(&self, function: Function, kind: CaseKind) -> bool {
         let of_function = self.function.is_none_or(|alone| alone == function);
         let of_kind = self.kind.is_none_or(|alone| alone == kind);
-        of_function && of_kind && !self.of_tool
+        of_function && of_kind && self.area == Area::Lists
     }
 
     pub fn run(&self, function: Function, case: &Case) -> Outcome {
@@ -106,8 +128,8 @@ impl Mutant {
     pub fn listing(&self, input: &[u8]) -> String {
         match &self.change {
             Change::Rules(rules) => rules.listing(input),
-            Change::Outcome(_) | Change::Run(_) => rules::paper().listing(input),
             Change::Listing(change) => change(input),
+            _ => rules::paper().listing(input),
         }
     }
 
@@ -116,21 +138,36 @@ impl Mutant {
         match &self.change {
             Change::Rules(rules) => case.by(rules),
             Change::Run(change) => change(case, expected.clone()),
-            Change::Outcome(_) | Change::Listing(_) => expected.clone(),
+            _ => expected.clone(),
         }
     }
 
-    pub fn is_of_tool(&self) -> bool {
-        self.of_tool
+    /// What is given for a case of books; `expected` is by the documents.
+    pub fn book(&self, case: &books::Case, expected: &books::Outcome) -> books::Outcome {
+        match &self.change {
+            Change::Rules(rules) => books::outcome(rules, case),
+            Change::Book(change) => change(case, expected.clone()),
+            _ => expected.clone(),
+        }
     }
 
     /// The change is in what only the listing program does.
     pub fn is_of_listing(&self) -> bool {
         match &self.change {
             Change::Rules(rules) => rules.listing != rules::paper().listing,
-            Change::Outcome(_) | Change::Run(_) => false,
             Change::Listing(_) => true,
+            _ => false,
         }
+    }
+}
+
+fn area_of(changed: &Rules) -> Area {
+    if (Rules { tool: changed.tool.clone(), ..Rules::paper() }) == *changed {
+        Area::Tool
+    } else if (Rules { books: changed.books.clone(), ..Rules::paper() }) == *changed {
+        Area::Books
+    } else {
+        Area::Lists
     }
 }
 
@@ -159,6 +196,7 @@ pub fn all() -> Vec<Mutant> {
     all.extend(modes::all());
     all.extend(effects::all());
     all.extend(runs::all());
+    all.extend(other_books::all());
     all
 }
 

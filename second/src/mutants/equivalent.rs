@@ -277,6 +277,22 @@ const REASONS: &[Reason] = &[
         &["reader in a mode: swapped: OwnWords"],
     ),
     (
+        "a count over 256 is 22 by itself: the contents of others have far fewer than 2^32 words",
+        &["books: reader: checks: verdict 22: fault 1: test: left: WrappedContents"],
+    ),
+    (
+        "a length over 4,096 is 24 by itself: 256 others have far fewer than 2^32 words",
+        &["books: reader: checks: verdict 24: fault 2: test: left: WrappedBodiesEnd"],
+    ),
+    (
+        "a body that is too long has words",
+        &["books: *: checks: verdict 24: fault 0: entries: WithWords"],
+    ),
+    (
+        "scene numbers rise strictly: no two entries have the same",
+        &["books: reader: found by: LastOfNumber"],
+    ),
+    (
         "no rule reads the image, and the listing doesn't show it",
         &["listing: starting word: 1, not 0"],
     ),

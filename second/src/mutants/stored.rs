@@ -1,6 +1,7 @@
-//! The stored cases of the gate: the files that the crates `vectors`, `listings` and `runs` read.
+//! The stored cases of the gate: the files that the crates `vectors`, `listings`, `runs` and `books` read.
 
-use super::changes::Mutant;
+use super::changes::{Area, Mutant};
+use crate::books;
 use crate::listings;
 use crate::lists::{Case, CaseKind};
 use crate::outcome::{self, Function};
@@ -18,6 +19,7 @@ pub struct Stored {
     vectors: Vec<Vector>,
     listings: Vec<(&'static str, Vec<u8>)>,
     runs: Vec<(RunCase, Run)>,
+    books: Vec<(books::Case, books::Outcome)>,
 }
 
 #[derive(Clone, Copy, Debug, PartialEq, Eq)]
@@ -25,6 +27,7 @@ pub enum By {
     Vectors,
     Listings,
     Runs,
+    Books,
 }
 
 pub struct Seen {
@@ -43,6 +46,7 @@ impl Stored {
             ("vectors", as_bytes(vectors::crate_files())),
             ("listings", as_bytes(listings::crate_files())),
             ("runs", runs::crate_files()),
+            ("books", as_bytes(books::crate_files())),
         ] {
             let folder = crates.join(name);
             if fs::read(folder.join("stdin"))? != stdin
@@ -61,15 +65,25 @@ impl Stored {
             (case, expected)
         };
         let runs = runs::stored_runs().into_iter().map(with_expected).collect();
-        Ok(Stored { vectors, listings: listings::stored_inputs(), runs })
+        let with_outcome = |case: books::Case| {
+            let expected = books::outcome(rules::paper(), &case);
+            (case, expected)
+        };
+        let books = books::stored_cases().into_iter().map(with_outcome).collect();
+        Ok(Stored { vectors, listings: listings::stored_inputs(), runs, books })
+    }
+
+    pub fn first_to_see(&self, mutant: &Mutant) -> Option<Seen> {
+        match mutant.area {
+            Area::Lists => self.first_list_to_see(mutant),
+            Area::Tool => self.first_run_to_see(mutant),
+            Area::Books => self.first_book_to_see(mutant),
+        }
     }
 
     /// The first case whose digest, or else the first input whose listing, or else the first run whose
     /// text and words aren't the stored ones.
-    pub fn first_to_see(&self, mutant: &Mutant) -> Option<Seen> {
-        if mutant.is_of_tool() {
-            return self.first_run_to_see(mutant);
-        }
+    fn first_list_to_see(&self, mutant: &Mutant) -> Option<Seen> {
         let differs = |(_, (case, parts)): &(usize, &Vector)| {
             let mut changed = *parts;
             for function in case.kind.functions().filter(|f| mutant.concerns(*f, case.kind)) {
@@ -96,6 +110,30 @@ impl Stored {
         let text = self.runs.iter().find_map(other)?;
         Some(Seen { by: By::Runs, text })
     }
+
+    fn first_book_to_see(&self, mutant: &Mutant) -> Option<Seen> {
+        let (k, other) = self.books.iter().enumerate().find_map(|(k, (case, expected))| {
+            other_book(mutant, case, expected).map(|other| (k, other))
+        })?;
+        Some(Seen { by: By::Books, text: format!("book {k}, {other}") })
+    }
+}
+
+/// What the change gives for a case of books, where its digest isn't that of what the documents give.
+pub fn other_book(
+    mutant: &Mutant,
+    case: &books::Case,
+    expected: &books::Outcome,
+) -> Option<String> {
+    let given = mutant.book(case, expected);
+    if books::digest(&given) == books::digest(expected) {
+        return None;
+    }
+    let difference = books::difference(case, &given, expected)?;
+    let decimal = u32::to_string;
+    let (words, arguments) =
+        (first_words(&case.words, decimal), first_words(&case.arguments, decimal));
+    Some(format!("{} {words} {arguments} room {}: {difference}", case.class, case.out_len))
 }
 
 /// What the change gives for the case, where it isn't what document 01 gives.

@@ -1,6 +1,7 @@
-//! Document 01, and Tickets 1 to 7 of document 02, as a value: each part under its sentence.
+//! Document 01, and Tickets 1 to 8 of document 02, as a value: each part under its sentence.
 
-use super::language::{Field, Mask, Quantity, Set, Test, Value};
+use super::books::*;
+use super::language::{Comparison, Field, Mask, Quantity, Set, Test, Value};
 use super::scenes::*;
 use super::shape::*;
 use super::swap::*;
@@ -103,6 +104,7 @@ impl Rules {
             to_pci: to_pci(terms),
             from_pci: from_pci(terms),
             scenes: scenes(),
+            books: books(),
             tool: tool(),
         }
     }
@@ -500,4 +502,100 @@ fn scenes() -> Scenes {
 /// "checked when its turn comes and before the list", "0 where 20 is given"
 fn pair_refused(test: Test) -> PairCheck {
     PairCheck { verdict: 20, test, tested: Tested::InTurn, position: PairAt::Zero }
+}
+
+/// "We want one file: contents table, then bodies."
+fn books() -> Books {
+    Books { reader: book_reader(), writer: book_writer() }
+}
+
+/// "Each entry is three words: scene number, start, length."
+fn entry() -> Vec<EntryWord> {
+    vec![EntryWord::Number, EntryWord::Start, EntryWord::Length]
+}
+
+fn contents(first_word: usize) -> Contents {
+    let word = Mask { bits: !0, width: 32 };
+    Contents { first_word, entry: entry(), number: word, start: word, length: word }
+}
+
+fn book_check(verdict: u32, faults: Vec<BookFault>) -> BookCheck {
+    BookCheck { verdict, faults }
+}
+
+/// "Scene numbers rise strictly": "23 numbers not rising"
+fn not_rising() -> BookCheck {
+    let test = BookQuantity::Number.compare(Comparison::AtMost, BookQuantity::NumberBefore);
+    book_check(23, vec![BookFault::Entry(Entries::BehindFirst, test)])
+}
+
+/// "A body has at most 4,096 words."
+fn body_too_long() -> BookFault {
+    BookFault::Entry(Entries::Every, BookQuantity::Length.over(4096))
+}
+
+fn book_reader() -> BookReader {
+    use BookFault::{Entry, Whole};
+    use BookQuantity::{BodiesEnd, ContentsWords, Count, Found, Place, Start, Words};
+    use Comparison::{NotEqual, Over};
+    BookReader {
+        // "Its first word is the number of entries"
+        count: Mask { bits: !0, width: 32 },
+        contents: contents(1),
+        // "Starts count words from the file's beginning."
+        starts: StartsFrom::File,
+        // "Refusals, in this order"
+        checks: BookChecks(vec![
+            // "22 table cut short or over 256"
+            book_check(22, vec![Whole(Count.over(256)), Whole(ContentsWords.compare(Over, Words))]),
+            not_rising(),
+            // "24 a body too long or not where the rule puts it, or words left over": "bodies stand in
+            // contents order, touch each other, begin right after the table and end with the file"
+            book_check(
+                24,
+                vec![
+                    body_too_long(),
+                    Entry(Entries::Every, Start.compare(NotEqual, Place)),
+                    Whole(BodiesEnd.compare(NotEqual, Words)),
+                ],
+            ),
+            // "25 no such scene"
+            book_check(25, vec![Whole(Found.is(0))]),
+        ]),
+        passes: Passes::CheckByCheck,
+        reach: Reach::WholeTable,
+        found_by: FoundBy::Number,
+        // "the reader hands back that very stretch of the caller's buffer, an empty one on refusal"
+        start: ToldStart::InFile,
+        length: ToldLength::OfBody,
+        refused: RefusedStretch::Nothing,
+    }
+}
+
+fn book_writer() -> BookWriter {
+    use BookFault::{Entry, Whole};
+    use BookQuantity::{BookWords, Count, End, Room, SpareWords, Words};
+    use Comparison::Over;
+    BookWriter {
+        // "a table of such entries, with no count word, over a word buffer where its starts count"
+        table: contents(0),
+        checks: BookChecks(vec![
+            // "The writer gives 22, 23, 24 for a body too long or outside its buffer and, last, 11": "exactly
+            // when what is to be written doesn't fit"
+            book_check(22, vec![Whole(SpareWords.is_not(0)), Whole(Count.over(256))]),
+            not_rising(),
+            book_check(24, vec![body_too_long(), Entry(Entries::Every, End.compare(Over, Words))]),
+            book_check(11, vec![Whole(BookWords.compare(Over, Room))]),
+        ]),
+        passes: Passes::CheckByCheck,
+        // "Its first word is the number of entries", then as the reader has it
+        count: CountWord::Entries,
+        entry: entry(),
+        starts: WrittenStart::InFile,
+        bodies: BodyOrder::OfTable,
+        words: WordsTold::Book,
+        // "On refusal the last three are 0, and image and buffers are as before."
+        refused: RefusedWords::Zero,
+        on_refusal: BufferOnRefusal::Kept,
+    }
 }

@@ -269,7 +269,7 @@ pub enum Comparison {
 }
 
 impl Comparison {
-    fn holds(self, a: u64, b: u64) -> bool {
+    pub fn holds(self, a: u64, b: u64) -> bool {
         match self {
             Comparison::Below => a < b,
             Comparison::AtMost => a <= b,

@@ -1,6 +1,7 @@
 //! What the rules consist of. `document` has their values; the macros let `mutants` change each
 //! value by itself.
 
+use super::books::Books;
 use super::language::{Facts, Field, Mask, Set, Test};
 use super::scenes::Scenes;
 use super::swap::{FixedMode, Swap};
@@ -9,7 +10,7 @@ use crate::vary::{choices, parts};
 
 parts! {
     /// The rules of reading, of the normal form and its length, of the byte orders, of the listing, of the
-    /// writes over PCI, of sessions and of the tool.
+    /// writes over PCI, of sessions, of books and of the tool.
     pub struct Rules {
         pub id: Field,
         /// The header as the masks test it, and as the image holds it.
@@ -34,6 +35,7 @@ parts! {
         pub to_pci: ToPci,
         pub from_pci: FromPci,
         pub scenes: Scenes,
+        pub books: Books,
         pub tool: Tool,
     }
 }

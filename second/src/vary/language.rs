@@ -124,11 +124,11 @@ fn bits_by_field(word: usize, key: &Field, masks: &[(Vec<u32>, Mask)]) -> Varian
 
 /// Every other comparison. With zero on the right, which nothing is below, those that say the same
 /// are left out.
-fn other_comparisons(given: Comparison, right: &Value) -> Vec<Comparison> {
+pub fn other_comparisons(given: Comparison, with_zero: bool) -> Vec<Comparison> {
     use Comparison::*;
-    let all: &[Comparison] = match right {
-        Value::Number(0) => &[Equal, NotEqual, Always, Never],
-        _ => &[Below, AtMost, Equal, NotEqual, AtLeast, Over, Always, Never],
+    let all: &[Comparison] = match with_zero {
+        true => &[Equal, NotEqual, Always, Never],
+        false => &[Below, AtMost, Equal, NotEqual, AtLeast, Over, Always, Never],
     };
     all.iter().copied().filter(|other| *other != given).collect()
 }
@@ -165,7 +165,7 @@ fn constant(comparison: Comparison) -> Test {
 fn compare_variants(a: &Value, comparison: Comparison, b: &Value) -> Variants<Test> {
     let mut all = within("left", a, |a| Test::Compare(a, comparison, b.clone()));
     all.extend(within("right", b, |b| Test::Compare(a.clone(), comparison, b)));
-    for other in other_comparisons(comparison, b) {
+    for other in other_comparisons(comparison, *b == Value::Number(0)) {
         let name = format!("{other:?}, not {comparison:?}");
         all.push((name, Test::Compare(a.clone(), other, b.clone())));
     }

@@ -1,8 +1,8 @@
 use native.Mathlib.Omega.{arith}
 use lib.ListN.{length-take}
 use borrow.Author.Needs.{needs}
-use Rattle.vectors.proofs.next_words.Statement.{statement}
-use Rattle.vectors.proofs.next_words.Tie as tie
+use Rattle.stored.proofs.next_words.Statement.{statement}
+use Rattle.stored.proofs.next_words.Tie as tie
 
 slice-aggregate-bytes : tie.Need-slice-aggregate-load-words
 slice-aggregate-bytes c = simp length-take (omega arith)

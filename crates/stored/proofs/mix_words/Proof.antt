@@ -1,8 +1,8 @@
 use borrow.Author.Needs.{needs}
 use Prim.Native.Nat.{_-_, _≤_}
 use lib.ListN.{length}
-use Rattle.vectors.proofs.mix_words.Statement.{statement}
-use Rattle.vectors.proofs.mix_words.Tie as tie
+use Rattle.stored.proofs.mix_words.Statement.{statement}
+use Rattle.stored.proofs.mix_words.Tie as tie
 
 abbrev Inv-loop : tie.InvT-loop
 Inv-loop start words digest₀ i₀ digest i = i ≤ length words

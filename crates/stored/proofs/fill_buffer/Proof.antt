@@ -3,8 +3,8 @@ use native.Mathlib.Omega.{arith}
 use Prim.Native.Nat.{_-_}
 use mathlib.Core.Path.{_≡_}
 use lib.ListN.{length, length-set}
-use Rattle.vectors.proofs.fill_buffer.Statement.{statement}
-use Rattle.vectors.proofs.fill_buffer.Tie as tie
+use Rattle.stored.proofs.fill_buffer.Statement.{statement}
+use Rattle.stored.proofs.fill_buffer.Tie as tie
 
 abbrev Inv-loop : tie.InvT-loop
 Inv-loop buffer₀ w₀ i₀ buffer w i = length buffer ≡ length buffer₀

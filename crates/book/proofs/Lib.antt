@@ -1,0 +1,4 @@
+pub mod Rest
+pub mod Faults
+pub mod Writing
+pub mod Written
