@@ -1,6 +1,7 @@
 /*
  * From C: reads a list, asks how long its normal form is and writes it in just that room, writes its PCI writes and the list
- * of these, reads two bad lists, several lists in one call, and a list in the other byte order.
+ * of these, reads two bad lists, several lists in one call, and a list in the other byte order, writes a book of two scenes, and
+ * reads a list where it is in the book.
  */
 #include <inttypes.h>
 #include <stdio.h>
@@ -97,6 +98,45 @@ static void print_other_order(const uint32_t *list, size_t list_words)
     print_answer("no such mode", answer);
 }
 
+/* Reads a scene where it is in its book. */
+static void print_scene(const uint32_t *book, size_t book_words, uint32_t number)
+{
+    uint32_t place[XP10_PLACE_WORDS] = {0};
+    uint32_t image[256] = {0};
+    uint32_t records[64] = {0};
+    uint32_t answer[XP10_ANSWER_WORDS] = {0};
+
+    uint32_t verdict = xp10_find_scene(book, book_words, number, place, WORDS(place));
+    printf("scene %" PRIu32 ": verdict %" PRIu32 ", start %" PRIu32 ", length %" PRIu32 "\n", number, verdict,
+           place[XP10_START], place[XP10_LENGTH]);
+    if (verdict != XP10_ACCEPTED)
+        return;
+    xp10_read(book + place[XP10_START], place[XP10_LENGTH], image, WORDS(image), records, WORDS(records), answer,
+              WORDS(answer), XP10_NO_SWAP);
+    print_answer("its list", answer);
+    print_records(records, answer[XP10_WORDS]);
+}
+
+/* Writes a book of two scenes of a word buffer, in just its room and in one word less, and asks it for scenes. */
+static void print_book(const uint32_t *words, size_t words_words)
+{
+    static const uint32_t table[] = {2, 0, 3, 7, 3, 2};
+    uint32_t book[1 + WORDS(table) + 5] = {0};
+    uint32_t answer[XP10_BOOK_ANSWER_WORDS] = {0};
+
+    xp10_write_book(table, WORDS(table), words, words_words, book, WORDS(book) - 1, answer, WORDS(answer));
+    printf("a book in one word less: verdict %" PRIu32 ", words %" PRIu32 "\n", answer[XP10_BOOK_VERDICT],
+           answer[XP10_BOOK_WORDS]);
+    xp10_write_book(table, WORDS(table), words, words_words, book, WORDS(book), answer, WORDS(answer));
+    printf("a book: verdict %" PRIu32 ", words %" PRIu32 "\n", answer[XP10_BOOK_VERDICT], answer[XP10_BOOK_WORDS]);
+    for (uint32_t i = 0; i < answer[XP10_BOOK_WORDS]; i++)
+        printf("%08" PRIx32 "\n", book[i]);
+
+    print_scene(book, WORDS(book), 7);
+    print_scene(book, WORDS(book), 3);
+    print_scene(book, WORDS(book) - 1, 7);
+}
+
 int main(void)
 {
     static const uint32_t list[] = {0x02000010, 0x00000300, 0x48000000, 0, 0, 0, 0x21000100, 0x10100007, 0, 0, 0};
@@ -147,5 +187,7 @@ int main(void)
     print_scenes("the second is outside", scenes, WORDS(scenes), outside, WORDS(outside));
 
     print_other_order(reversed, WORDS(reversed));
+
+    print_book(scenes, WORDS(scenes));
     return 0;
 }

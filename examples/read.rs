@@ -1,5 +1,6 @@
 //! From Rust: reads a list, asks how long its normal form is and writes it in just that room, writes its PCI writes and the
-//! list of these, reads two bad lists, several lists in one call, and a list in the other byte order.
+//! list of these, reads two bad lists, several lists in one call, and a list in the other byte order, writes a book of two
+//! scenes, and reads a list where it is in the book.
 
 extern "C" {
     fn xp10_read(
@@ -66,6 +67,19 @@ extern "C" {
         image_words: usize,
         list: *mut u32,
         list_words: usize,
+        answer: *mut u32,
+        answer_words: usize,
+    ) -> u32;
+
+    fn xp10_find_scene(book: *const u32, book_words: usize, number: u32, place: *mut u32, place_words: usize) -> u32;
+
+    fn xp10_write_book(
+        table: *const u32,
+        table_words: usize,
+        words: *const u32,
+        words_words: usize,
+        book: *mut u32,
+        book_words: usize,
         answer: *mut u32,
         answer_words: usize,
     ) -> u32;
@@ -166,6 +180,33 @@ fn write(function: Writer, words: &[u32], image: &[u32], out: &mut [u32]) -> Ans
     answer
 }
 
+/// The verdict, and the start and the length of the scene's words in the book.
+fn find_scene(book: &[u32], number: u32) -> (u32, [u32; 2]) {
+    let mut place = [0; 2];
+    // SAFETY: as for `read`.
+    let verdict = unsafe { xp10_find_scene(book.as_ptr(), book.len(), number, place.as_mut_ptr(), place.len()) };
+    (verdict, place)
+}
+
+/// The verdict, and the words written.
+fn write_book(table: &[u32], words: &[u32], book: &mut [u32]) -> [u32; 2] {
+    let mut answer = [0; 2];
+    // SAFETY: as for `read`.
+    unsafe {
+        xp10_write_book(
+            table.as_ptr(),
+            table.len(),
+            words.as_ptr(),
+            words.len(),
+            book.as_mut_ptr(),
+            book.len(),
+            answer.as_mut_ptr(),
+            answer.len(),
+        )
+    };
+    answer
+}
+
 fn print_answer(name: &str, answer: Answer) {
     let [verdict, position, commands, records, words, bit] = answer;
     println!(
@@ -219,6 +260,36 @@ fn print_other_order(list: &[u32]) {
     print_answer("no such mode", read(list, &mut image, &mut words, FULL_SWAP + 1));
 }
 
+/// Reads a scene where it is in its book.
+fn print_scene(book: &[u32], number: u32) {
+    let (verdict, [start, length]) = find_scene(book, number);
+    println!("scene {number}: verdict {verdict}, start {start}, length {length}");
+    if verdict != 0 {
+        return;
+    }
+    let (mut image, mut records) = ([0; 256], [0; 64]);
+    let list = &book[start as usize..][..length as usize];
+    let answer = read(list, &mut image, &mut records, NO_SWAP);
+    print_answer("its list", answer);
+    print_records(&records[..answer[4] as usize]);
+}
+
+/// Writes a book of two scenes of a word buffer, in just its room and in one word less, and asks it for scenes.
+fn print_book(words: &[u32]) {
+    let table = [2, 0, 3, 7, 3, 2];
+    let mut book = [0; 12];
+    let [verdict, written] = write_book(&table, words, &mut book[..11]);
+    println!("a book in one word less: verdict {verdict}, words {written}");
+    let [verdict, written] = write_book(&table, words, &mut book);
+    println!("a book: verdict {verdict}, words {written}");
+    for word in &book[..written as usize] {
+        println!("{word:08x}");
+    }
+    print_scene(&book, 7);
+    print_scene(&book, 3);
+    print_scene(&book[..11], 7);
+}
+
 fn main() {
     let list = [0x02000010, 0x00000300, 0x48000000, 0, 0, 0, 0x21000100, 0x10100007, 0, 0, 0];
     let start = [0; 256];
@@ -258,4 +329,6 @@ fn main() {
     print_scenes("the second is outside", &scenes, &[0, 3, 4, 3]);
 
     print_other_order(&[0x10000002, 0x20000002, 0x01000000, 0x20000002]);
+
+    print_book(&scenes);
 }

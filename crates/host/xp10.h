@@ -1,6 +1,6 @@
 /*
- * XP10 command lists: the reader, of one list and of several in one call, the normaliser and the room that it needs, and PCI
- * writes from a list and back, proved in Rattle (crates/host).
+ * XP10 command lists: the reader, of one list and of several in one call, the normaliser and the room that it needs, PCI
+ * writes from a list and back, and books of scenes, proved in Rattle (crates/host).
  * Link with target/staticlib/libhost.a, which `rt staticlib host` makes.
  *
  * Each slice is a pointer and a number of 32-bit words. No pointer is null, also with no words, and a slice that is
@@ -30,7 +30,7 @@ enum {
     XP10_ILLEGAL_VALUE = 7,    /* the lowest such word */
     XP10_PAYLOAD_CUT_SHORT = 9, /* the command's first word */
     XP10_NO_BEGIN = 10,        /* follows a surface base and is no BEGIN: the command's first word */
-    XP10_BUFFER_TOO_SMALL = 11, /* the list's length */
+    XP10_BUFFER_TOO_SMALL = 11, /* the list's length; of a book 0 */
     XP10_WRONG_ADDRESS = 13,   /* of a PCI write: the number of that pair, from 0 on */
     XP10_PAIRS_CUT_SHORT = 14, /* PCI writes that end inside a command: the number of the command's first pair */
     XP10_PAGE_MAXIMUM = 15,    /* window clip: the page maximum is over the bank's limit: the command's first word */
@@ -39,7 +39,12 @@ enum {
     XP10_LOAD_FLOATS = 18,     /* bit 23 of a load whose code is not 5: the command's first word */
     XP10_PLANE_RANGE = 19,     /* a load of user clip planes behind the eighth: the command's first word */
     XP10_PAIR_OUTSIDE = 20,    /* of a table of lists: a pair after the 4,096th, or not inside the word buffer: 0 */
-    XP10_NO_SUCH_MODE = 21     /* a mode over 3: 0; told before all else */
+    XP10_NO_SUCH_MODE = 21,    /* a mode over 3: 0; told before all else */
+    XP10_CONTENTS_CUT_SHORT = 22, /* of a book or a table of scenes: not all entries are there, or over 256: 0 */
+    XP10_NUMBERS_NOT_RISING = 23, /* of a book or a table of scenes: 0 */
+    XP10_BODY_MISPLACED = 24,  /* of a book: a body over 4,096 words or not in its place, or words left over; of a table of
+                                  scenes: a body over 4,096 words or not inside the word buffer: 0 */
+    XP10_NO_SUCH_SCENE = 25    /* of a book: 0 */
 };
 
 /*
@@ -136,6 +141,47 @@ uint32_t xp10_from_pci(const uint32_t *pairs, size_t pairs_words,
                        const uint32_t *image, size_t image_words,
                        uint32_t *list, size_t list_words,
                        uint32_t *answer, size_t answer_words);
+
+/*
+ * A book holds scenes in one buffer: its first word is the number of entries, 0 to 256; then each has three words, the scene's
+ * number, the start of its body, counted in words from the book's beginning, and the length; then come the bodies, of at most
+ * 4,096 words each, one behind the other, and nothing else. The numbers rise strictly.
+ */
+
+/* Where a scene is in its book. Those that `place` has no room for are left out. */
+enum {
+    XP10_START,
+    XP10_LENGTH,
+    XP10_PLACE_WORDS
+};
+
+/* The numbers of an answer of xp10_write_book. Those that `answer` has no room for are left out. */
+enum {
+    XP10_BOOK_VERDICT,
+    XP10_BOOK_WORDS, /* the words written to `book`, 0 after a refusal */
+    XP10_BOOK_ANSWER_WORDS
+};
+
+/*
+ * Finds a scene in a book: returns the verdict, and in `place` where its words are; after a refusal XP10_START and XP10_LENGTH
+ * are 0. XP10_CONTENTS_CUT_SHORT, XP10_NUMBERS_NOT_RISING and XP10_BODY_MISPLACED are told in this order, whatever scene is
+ * asked for, each looked for in all entries before the next, and XP10_NO_SUCH_SCENE last. No body is looked at.
+ */
+uint32_t xp10_find_scene(const uint32_t *book, size_t book_words,
+                         uint32_t number,
+                         uint32_t *place, size_t place_words);
+
+/*
+ * Writes the book of a table of scenes: returns the verdict. `table` has three words for each scene, its number, and the start
+ * and the length of its body in `words`, where bodies may lie in any order and overlap; the starts in the book are computed.
+ * XP10_CONTENTS_CUT_SHORT (a table that ends inside an entry too), XP10_NUMBERS_NOT_RISING and XP10_BODY_MISPLACED are told in
+ * this order, each looked for in all entries before the next, and XP10_BUFFER_TOO_SMALL last. A refusal leaves `book` as it was,
+ * and words behind those written stay.
+ */
+uint32_t xp10_write_book(const uint32_t *table, size_t table_words,
+                         const uint32_t *words, size_t words_words,
+                         uint32_t *book, size_t book_words,
+                         uint32_t *answer, size_t answer_words);
 
 #ifdef __cplusplus
 }
