@@ -58,7 +58,7 @@ fn count(book: &[u32]) -> u32
     book[0]
 }
 
-// Where the body of entry k is not in its place: 24, if the numbers rise from there on.
+// The fault where the body of entry k is not in its place: 24 only if the numbers rise from there on.
 fn misplaced(table: &[u32], n: usize, k: usize) -> u32
     requires { ⌜ Holds n (now table) × (k < n) ⌝ }
     ensures { λ r. ⌜ r ≡ cond (rising (entries (n - k) (drop (3 * k) (now (table .entry))))) 24 23 ⌝ }
@@ -103,7 +103,7 @@ fn no_scene(verdict: u32) -> SceneAnswer
     }
 }
 
-// The first of n entries whose number, they rise, is not below.
+// By halves, of n entries whose numbers rise, the first whose number is not below.
 fn first_from(table: &[u32], n: usize, number: u32) -> usize
     requires { ⌜ Holds n (now table) × (rising (entries n (now table)) ≡ true) ⌝ }
     ensures { λ r. ⌜ FirstFrom (now (table .entry)) n number r ⌝ }
