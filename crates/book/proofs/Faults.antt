@@ -1,13 +1,12 @@
 -- A book by its table, as the code lends it on, and the verdict by the answers of its tests.
 use Prim.Native.Nat.{ℕ, _-_, _≤_}
-use native.Mathlib.Omega.{arith}
 use mathlib.Core.Path.{_≡_, sym, _∙_}
 use mathlib.Core.Bool.{Bool, true, false, cond, _||_}
 use mathlib.Core.List.{List}
 use lib.Dec.{eqb, ltb}
 use lib.ListN.{length, take, drop}
 use borrow.Rule.Slice.PartAt.{part-to-end}
-use Rattle.rules.specs.Book.{entries, rising, faultOf, count, contents, bodiesAt, cutShort, inPlace, bookFault, noScene, lookUp, findingScene, Holds}
+use Rattle.rules.specs.Book.{entries, rising, faultOf, count, contents, bodiesAt, inPlace, bookFault, noScene, lookUp, findingScene, Holds}
 use Rattle.theory.proofs.Contents.{faultless, book-holds}
 
 -- ---- the fault by where the pass ends

@@ -10,7 +10,6 @@ use lib.Seq.{getD-drop, drop-drop}
 use borrow.Author.Tests.{ltb-true, leb-true, lt-leb, le-leb, eq-eqb, ne-eqb, not-false}
 use Rattle.theory.proofs.Bools.{and-left, and-right}
 use Rattle.rules.specs.declared.Entry.{Entry}
-use Rattle.rules.specs.declared.SceneAnswer.{SceneAnswer}
 use Rattle.rules.specs.Book.{entries, rising, inPlace, noScene, lookUp, inBuffer, entryAt}
 use Rattle.book.specs.Tables.{FirstFrom, total}
 

@@ -3,11 +3,11 @@ use Prim.Native.Nat.{ℕ, zero, suc, _+_, _-_, _*_, _≤_, _<_}
 use native.Mathlib.Omega.{arith}
 use mathlib.Core.Path.{_≡_, refl, ap, sym, _∙_}
 use mathlib.Core.Bool.{true}
-use mathlib.Core.List.{List, [], _∷_, _++_}
+use mathlib.Core.List.{List, [], _∷_}
 use lib.ListN.{length, getD, set, take, drop, drop-of-length-le, length-set, length-append}
 use lib.Seq.{sets, length-sets, set-comm, drop-cons}
 use Rattle.rules.specs.declared.Entry.{Entry}
-use Rattle.rules.specs.Book.{entries, bodyIn, bodiesAt, scenesIn, contentsOf, bodies, bookOf, inBuffer, entryAt, Holds}
+use Rattle.rules.specs.Book.{entries, bodyIn, bodiesAt, scenesIn, contentsOf, bodies, bookOf, inBuffer, entryAt}
 use Rattle.theory.proofs.Image.{sets-append}
 use Rattle.theory.proofs.Contents.{body-length, Inside, inside}
 use Rattle.theory.proofs.Scenes.{scenes-length, contents-length}

@@ -11,11 +11,10 @@ use lib.ListN.{length, getD, drop, length-append}
 use lib.Seq.{getD-drop, take-append-seam, drop-append-seam}
 use borrow.Author.Tests.{eqb-true, eqb-false, ltb-true, ltb-false, ne-eqb}
 use Rattle.rules.specs.declared.Entry.{Entry}
-use Rattle.rules.specs.declared.SceneAnswer.{SceneAnswer}
-use Rattle.rules.specs.Book.{entries, bodyIn, count, contents, bookFault, noScene, lookUp, findingScene, stretch, Scene, scenesIn, bodies, bookOf, tableEntries, tableScenes, tableFault, BookOutcome, noBook, putBook, writingBook, bookWritten, entryAt, scenesOf, asked, found, notFound, sceneOf, FitsBook, Short}
+use Rattle.rules.specs.Book.{bodyIn, count, contents, bookFault, noScene, lookUp, findingScene, Scene, bodies, bookOf, tableScenes, tableFault, BookOutcome, noBook, putBook, writingBook, bookWritten, entryAt, scenesOf, asked, found, notFound, sceneOf, FitsBook, Short}
 use Rattle.theory.proofs.Bytes.{Words}
 use Rattle.theory.proofs.Contents as laws
-use Rattle.theory.proofs.Scenes.{scenes-length, scenes-fit, entry-found, none-found, same-scenes, book-length, book-accepted, book-tells, book-scenes-fit, book-again, scenes-told}
+use Rattle.theory.proofs.Scenes.{scenes-fit, entry-found, none-found, same-scenes, book-length, book-accepted, book-tells, book-scenes-fit, book-again, scenes-told}
 
 -- ---- the reader
 
@@ -159,3 +158,8 @@ module _ (table ws buffer : List ℕ) where
     -- and no other is found
     pub no-other-found : (n : ℕ) → ((k : ℕ) → k < length table / 3 → entryAt table k .number ≡ n → ⊥) → asked (bookWritten (writingBook table ws buffer)) n ≡ notFound
     no-other-found n h = tells n ∙ none-found ws n (length table / 3) table h
+
+-- "one set of scenes has one book", wherever the bodies lie in the writer's buffer
+pub same-scenes-same-book : (table ws buffer table′ ws′ buffer′ : List ℕ) → writingBook table ws buffer .answer .verdict ≡ 0 → writingBook table′ ws′ buffer′ .answer .verdict ≡ 0
+    → tableScenes table ws ≡ tableScenes table′ ws′ → bookWritten (writingBook table ws buffer) ≡ bookWritten (writingBook table′ ws′ buffer′)
+same-scenes-same-book table ws buffer table′ ws′ buffer′ z z′ e = written-is table ws buffer z ∙ ap bookOf e ∙ sym (written-is table′ ws′ buffer′ z′)

@@ -1,15 +1,15 @@
 -- The contents of a scene book, and what it says that a book or a table has no fault.
-use Prim.Native.Nat.{ℕ, zero, suc, _+_, _*_, _/_, _%_, _≤_}
+use Prim.Native.Nat.{ℕ, _+_, _/_, _%_, _≤_}
 use native.Mathlib.Omega.{arith}
 use mathlib.Core.Path.{_≡_, refl}
-use mathlib.Core.Bool.{Bool, true, false, cond, not, _&&_, _||_}
+use mathlib.Core.Bool.{Bool, true, false, cond, not, _&&_}
 use mathlib.Core.List.{List, [], _∷_}
 use lib.Dec.{eqb, leb, ltb}
-use lib.ListN.{length, getD, drop, length-drop}
+use lib.ListN.{length, drop, length-drop}
 use lib.Seq.{length-take-le}
 use borrow.Author.Tests.{eqb-true, leb-true, le-leb, ltb-false}
 use Rattle.rules.specs.declared.Entry.{Entry}
-use Rattle.rules.specs.Book.{entries, rising, bodyIn, faultOf, count, contents, bodiesAt, cutShort, inPlace, bookFault, noScene, lookUp, findingScene, tableEntries, tableCut, inBuffer, tableFault, Holds}
+use Rattle.rules.specs.Book.{rising, bodyIn, faultOf, count, contents, bodiesAt, cutShort, inPlace, bookFault, noScene, lookUp, findingScene, tableEntries, tableCut, inBuffer, tableFault, Holds}
 use Rattle.theory.proofs.Bools.{neither}
 
 -- ---- no fault
