@@ -30,9 +30,9 @@ fn other_rules() -> Vec<Mutant> {
 /// No part is changed of which only other functions know, and none of the measure's own.
 fn is_of_lists(rules: &Rules) -> bool {
     let Rules { room_for_records, room_for_form, swap, records, form, .. } = Rules::paper();
-    let Rules { measure, listing, to_pci, from_pci, scenes, tool, .. } = Rules::paper();
+    let Rules { measure, listing, to_pci, from_pci, scenes, tool, books, .. } = Rules::paper();
     let room = Rules { room_for_records, room_for_form, swap, scenes, ..rules.clone() };
-    Rules { records, form, measure, listing, to_pci, from_pci, tool, ..room } == *rules
+    Rules { records, form, measure, listing, to_pci, from_pci, tool, books, ..room } == *rules
 }
 
 /// A form has as many words whatever work leaves in words that no setting has.
