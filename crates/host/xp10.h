@@ -17,34 +17,73 @@ extern "C" {
 #endif
 
 /*
- * Verdicts, each with its position. Of one command the first of 3 to 7, then 15 to 19, then 9 and 10 is told.
+ * Verdicts. Of a refusal first its position, which counts words from 0, then what it means and what to look at: `xp10 help` prints
+ * the same of those that the tool gives. Of several faults the first command's is told; in one command the first of 3 to 7, then 15
+ * to 19, then 9 and 10.
  */
 enum {
-    XP10_ACCEPTED = 0,         /* the list's length */
-    XP10_LIST_TOO_LONG = 1,    /* more than 4,096 words: 4096 */
-    XP10_IMAGE_SIZE = 2,       /* image not 256 words: 0 */
-    XP10_UNKNOWN_ID = 3,       /* the command's first word */
-    XP10_PCI_ONLY = 4,         /* id 03 or 04: the command's first word */
-    XP10_GROUP_CUT_SHORT = 5,  /* fewer than four words left: the command's first word */
-    XP10_UNDEFINED_BIT = 6,    /* the lowest such word; XP10_BIT is the lowest such bit in it */
-    XP10_ILLEGAL_VALUE = 7,    /* the lowest such word */
-    XP10_PAYLOAD_CUT_SHORT = 9, /* the command's first word */
-    XP10_NO_BEGIN = 10,        /* follows a surface base and is no BEGIN: the command's first word */
-    XP10_BUFFER_TOO_SMALL = 11, /* the list's length; of a book 0 */
-    XP10_WRONG_ADDRESS = 13,   /* of a PCI write: the number of that pair, from 0 on */
-    XP10_PAIRS_CUT_SHORT = 14, /* PCI writes that end inside a command: the number of the command's first pair */
-    XP10_PAGE_MAXIMUM = 15,    /* window clip: the page maximum is over the bank's limit: the command's first word */
-    XP10_PAGE_MINIMUM = 16,    /* window clip: the page minimum is over the maximum: the command's first word */
-    XP10_RASTER_BITS = 17,     /* raster mode: bit 14 without bit 22: the command's first word */
-    XP10_LOAD_FLOATS = 18,     /* bit 23 of a load whose code is not 5: the command's first word */
-    XP10_PLANE_RANGE = 19,     /* a load of user clip planes behind the eighth: the command's first word */
-    XP10_PAIR_OUTSIDE = 20,    /* of a table of lists: a pair after the 4,096th, or not inside the word buffer: 0 */
-    XP10_NO_SUCH_MODE = 21,    /* a mode over 3: 0; told before all else */
-    XP10_CONTENTS_CUT_SHORT = 22, /* of a book or a table of scenes: not all entries are there, or over 256: 0 */
-    XP10_NUMBERS_NOT_RISING = 23, /* of a book or a table of scenes: 0 */
-    XP10_BODY_MISPLACED = 24,  /* of a book: a body over 4,096 words or not in its place, or words left over; of a table of
-                                  scenes: a body over 4,096 words or not inside the word buffer: 0 */
-    XP10_NO_SUCH_SCENE = 25    /* of a book: 0 */
+    /* the list's length */
+    XP10_ACCEPTED = 0,
+    /* 4096: more than 4,096 words - split the list */
+    XP10_LIST_TOO_LONG = 1,
+    /* 0: the image has not 256 words - the caller's image, not the list */
+    XP10_IMAGE_SIZE = 2,
+    /* the command: unknown id - bits 31..24 of that word; often the command before has a wrong length */
+    XP10_UNKNOWN_ID = 3,
+    /* the command: id 03 or 04 - these go over PCI only, never in a list */
+    XP10_PCI_ONLY = 4,
+    /* the command: fewer than four words left for a group - the list was cut, or its last group */
+    XP10_GROUP_CUT_SHORT = 5,
+    /* that word: undefined bit set - the bit that the answer names, the lowest one: it must be zero */
+    XP10_UNDEFINED_BIT = 6,
+    /* that word: illegal value - load code, zero words of a load or primitive, bank 3 of a window clip */
+    XP10_ILLEGAL_VALUE = 7,
+    /* the command: payload cut short - the load's length, bits 8..0, counts groups of four words behind its own */
+    XP10_PAYLOAD_CUT_SHORT = 9,
+    /* the command: follows a surface base and is no BEGIN - put the BEGIN right behind the base */
+    XP10_NO_BEGIN = 10,
+    /* the list's length: record or output buffer too small - lend four words for each work command, for a form as many words
+     * as the list has, or in mode 0 what the measurer tells, twice as many for its PCI writes; for a book, where it stands
+     * at 0, a word, three for each scene, and all bodies */
+    XP10_BUFFER_TOO_SMALL = 11,
+    /* whole words read: programs only: bytes no multiple of four - the file was cut, or is no list */
+    XP10_UNEVEN_BYTES = 12,
+    /* that pair, counted from 0: PCI writes only: not the address that the command asks for - the address; often a value is
+     * missing or the command before has a wrong length */
+    XP10_WRONG_ADDRESS = 13,
+    /* the command's first pair: PCI writes only: the pairs end inside a command - the writes were cut, or a load's length is
+     * too large */
+    XP10_PAIRS_CUT_SHORT = 14,
+    /* the command: window clip: page maximum over the bank's limit - third word, bits 31..28: at most 15, 11 and 6 for banks
+     * 0, 1 and 2 (second word, bits 29..28) */
+    XP10_PAGE_MAXIMUM = 15,
+    /* the command: window clip: page minimum against the maximum - third word: bits 15..12 (minimum) are at most bits 31..28
+     * (maximum) */
+    XP10_PAGE_MINIMUM = 16,
+    /* the command: raster mode: raster bits - header bit 14 (always full page) may be set only with bit 22 (page-based
+     * rendering) */
+    XP10_RASTER_BITS = 17,
+    /* the command: load: bit 23 - header bit 23 (float conversion) may be set only with code 5 in bits 22..20 */
+    XP10_LOAD_FLOATS = 18,
+    /* the command: load: plane range - header bits 18..10 (offset) and 8..0 (length): their sum is at most 8 with code 5 */
+    XP10_PLANE_RANGE = 19,
+    /* 0: sessions only: a pair after the 4,096th, or outside the word buffer - the table: a start plus its length is at most
+     * the buffer's words; the number of lists applied is that of the pair, counted from 0 */
+    XP10_PAIR_OUTSIDE = 20,
+    /* 0: reader and normaliser as functions only: a mode over 3 - the mode: 0 unchanged, 1 bytes swapped in each half, 2
+     * halves swapped, 3 all four bytes reversed */
+    XP10_NO_SUCH_MODE = 21,
+    /* 0: books only: the table is cut short, or has over 256 entries - the first word, the number of entries, and three
+     * words for each; a writer's table has no first word and is a multiple of three words */
+    XP10_CONTENTS_CUT_SHORT = 22,
+    /* 0: books only: scene numbers do not rise - each number is over the one before, as unsigned words */
+    XP10_NUMBERS_NOT_RISING = 23,
+    /* 0: books only: a body too long or not where it belongs, or words left over - lengths are at most 4,096; starts count
+     * from the book's beginning, the first body is right behind the table and the last ends with the book; in a writer's
+     * table a start plus its length is at most the buffer's words */
+    XP10_BODY_MISPLACED = 24,
+    /* 0: books only: no such scene - the number that was asked for */
+    XP10_NO_SUCH_SCENE = 25
 };
 
 /*

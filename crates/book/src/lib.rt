@@ -5,11 +5,12 @@ use rules::BookAnswer;
 use rules::Entry;
 use rules::SceneAnswer;
 ghost use mathlib.Core.Path.{_≡_};
+ghost use Rattle.rules.specs.Lent.{given, left};
 ghost use mathlib.Core.Bool.{true, false, cond};
 ghost use Prim.Native.Nat.{_+_, _-_, _*_, _≤_, _<_};
 ghost use lib.ListN.{length, drop};
 ghost use lib.Seq.{sets};
-ghost use Rattle.rules.specs.Book.{entries, rising, faultOf, count, inPlace, bodiesAt, noScene, lookUp, findingScene, stretch};
+ghost use Rattle.rules.specs.Book.{bookAnswer, bookOutcome, entries, rising, faultOf, count, inPlace, bodiesAt, noScene, lookUp, findingScene, stretch};
 ghost use Rattle.rules.specs.Book.{bookOf, scenesIn, inBuffer, writingBook, Holds, entryAt};
 ghost use Rattle.book.specs.Tables.{FirstFrom, bookSize, CanWrite, CanPut, withScene};
 
@@ -17,7 +18,7 @@ ghost use Rattle.book.specs.Tables.{FirstFrom, bookSize, CanWrite, CanPu
 
 fn entry_at(table: &[u32], k: usize) -> Entry
     requires { ⌜ 3 * k + 3 ≤ length (now table) ⌝ }
-    ensures { λ r. ⌜ r ≡ entryAt (now (table .entry)) k ⌝ }
+    ensures { λ r. ⌜ r ≡ entryAt (given table) k ⌝ }
 {
     let at = 3 * k;
     Entry {
@@ -30,7 +31,7 @@ fn entry_at(table: &[u32], k: usize) -> Entry
 // Whether the numbers of n entries rise.
 fn rises(table: &[u32], n: usize) -> bool
     requires { ⌜ Holds n (now table) ⌝ }
-    ensures { λ r. ⌜ r ≡ rising (entries n (now (table .entry))) ⌝ }
+    ensures { λ r. ⌜ r ≡ rising (entries n (given table)) ⌝ }
 {
     let mut least: usize = 0;
     let mut k: usize = 0;
@@ -49,7 +50,7 @@ fn rises(table: &[u32], n: usize) -> bool
 
 // The first word, how many entries there are.
 fn count(book: &[u32]) -> u32
-    ensures { λ r. ⌜ r ≡ count (now (book .entry)) ⌝ }
+    ensures { λ r. ⌜ r ≡ count (given book) ⌝ }
 {
     if book.len() == 0 {
         return 0;
@@ -60,7 +61,7 @@ fn count(book: &[u32]) -> u32
 // The fault where the body of entry k is not in its place: 24 only if the numbers rise from there on.
 fn misplaced(table: &[u32], n: usize, k: usize) -> u32
     requires { ⌜ Holds n (now table) × (k < n) ⌝ }
-    ensures { λ r. ⌜ r ≡ cond (rising (entries (n - k) (drop (3 * k) (now (table .entry))))) 24 23 ⌝ }
+    ensures { λ r. ⌜ r ≡ cond (rising (entries (n - k) (drop (3 * k) (given table)))) 24 23 ⌝ }
 {
     let at = 3 * k;
     if rises(&table[at..], n - k) { 24 } else { 23 }
@@ -70,7 +71,7 @@ fn misplaced(table: &[u32], n: usize, k: usize) -> u32
 // many turns of a loop would take longer, by up to a half.
 fn contents_fault(table: &[u32], n: usize, end: usize) -> u32
     requires { ⌜ Holds n (now table) ⌝ }
-    ensures { λ r. ⌜ r ≡ faultOf false (rising (entries n (now (table .entry)))) (inPlace (bodiesAt n) end (entries n (now (table .entry)))) ⌝ }
+    ensures { λ r. ⌜ r ≡ faultOf false (rising (entries n (given table))) (inPlace (bodiesAt n) end (entries n (given table))) ⌝ }
 {
     let mut at = 1 + 3 * n;
     let mut least: usize = 0;
@@ -105,7 +106,7 @@ fn no_scene(verdict: u32) -> SceneAnswer
 // By halves, of n entries whose numbers rise, the first whose number is not below.
 fn first_from(table: &[u32], n: usize, number: u32) -> usize
     requires { ⌜ Holds n (now table) × (rising (entries n (now table)) ≡ true) ⌝ }
-    ensures { λ r. ⌜ FirstFrom (now (table .entry)) n number r ⌝ }
+    ensures { λ r. ⌜ FirstFrom (given table) n number r ⌝ }
 {
     let mut low: usize = 0;
     let mut high = n;
@@ -123,7 +124,7 @@ fn first_from(table: &[u32], n: usize, number: u32) -> usize
 // The scene of a number among n entries whose numbers rise.
 fn look_up(table: &[u32], n: usize, number: u32) -> SceneAnswer
     requires { ⌜ Holds n (now table) × (rising (entries n (now table)) ≡ true) ⌝ }
-    ensures { λ r. ⌜ r ≡ lookUp number (entries n (now (table .entry))) ⌝ }
+    ensures { λ r. ⌜ r ≡ lookUp number (entries n (given table)) ⌝ }
 {
     let k = first_from(table, n, number);
     if k == n {
@@ -142,7 +143,7 @@ fn look_up(table: &[u32], n: usize, number: u32) -> SceneAnswer
 
 // Where a scene's words are in the book.
 pub fn find(book: &[u32], number: u32) -> SceneAnswer
-    ensures { λ r. ⌜ r ≡ findingScene (now (book .entry)) number ⌝ }
+    ensures { λ r. ⌜ r ≡ findingScene (given book) number ⌝ }
 {
     let n = words::wide(count(book));
     if (256 < n) | (book.len() < 1 + 3 * n) {
@@ -158,7 +159,8 @@ pub fn find(book: &[u32], number: u32) -> SceneAnswer
 
 // The scene's own stretch of the book, an empty one on refusal, and the verdict beside it.
 pub fn scene<'a>(book: &'a [u32], number: u32, verdict: &mut u32) -> &'a [u32]
-    ensures { λ r. ⌜ (now r ≡ stretch (now (book .entry)) (findingScene (now (book .entry)) number)) × (now (verdict .exit) ≡ findingScene (now (book .entry)) number .verdict) ⌝ }
+    ensures { λ r. ⌜ now r ≡ stretch (given book) (findingScene (given book) number) ⌝ }
+    ensures { λ _. ⌜ left verdict ≡ findingScene (given book) number .verdict ⌝ }
 {
     let a = find(book, number);
     *verdict = a.verdict;
@@ -172,7 +174,7 @@ pub fn scene<'a>(book: &'a [u32], number: u32, verdict: &mut u32) -> &'a [u32]
 // The words of the book of n entries; 0 where a body is too long or not inside a buffer of some words.
 fn book_size(table: &[u32], n: usize, words: usize) -> usize
     requires { ⌜ Holds n (now table) ⌝ }
-    ensures { λ r. ⌜ r ≡ cond (inBuffer words (entries n (now (table .entry)))) (bookSize n (now (table .entry))) 0 ⌝ }
+    ensures { λ r. ⌜ r ≡ cond (inBuffer words (entries n (given table))) (bookSize n (given table)) 0 ⌝ }
 {
     let mut size = 1 + 3 * n;
     let mut k: usize = 0;
@@ -190,7 +192,7 @@ fn book_size(table: &[u32], n: usize, words: usize) -> usize
 
 fn copy(from: &[u32], out: &mut [u32], at: usize)
     requires { ⌜ at + length (now from) ≤ length (now out) ⌝ }
-    ensures { λ _. ⌜ now (out .exit) ≡ sets (now (out .entry)) at (now (from .entry)) ⌝ }
+    ensures { λ _. ⌜ left out ≡ sets (given out) at (given from) ⌝ }
 {
     let mut i: usize = 0;
     while i < from.len() {
@@ -202,7 +204,8 @@ fn copy(from: &[u32], out: &mut [u32], at: usize)
 // Entry k of the book, and its body at a word. The answer is where the next one goes.
 fn write_scene(table: &[u32], k: usize, words: &[u32], book: &mut [u32], at: usize) -> usize
     requires { ⌜ CanPut (now table) k (now words) (now book) at ⌝ }
-    ensures { λ r. ⌜ (r ≡ at + entryAt (now (table .entry)) k .length) × (now (book .exit) ≡ withScene (now (words .entry)) (3 * k + 1) at (entryAt (now (table .entry)) k) (now (book .entry))) ⌝ }
+    ensures { λ r. ⌜ r ≡ at + entryAt (given table) k .length ⌝ }
+    ensures { λ _. ⌜ left book ≡ withScene (given words) (3 * k + 1) at (entryAt (given table) k) (given book) ⌝ }
 {
     let e = entry_at(table, k);
     let entry = 3 * k + 1;
@@ -218,7 +221,7 @@ fn write_scene(table: &[u32], k: usize, words: &[u32], book: &mut [u32], at: usi
 // The book of n entries' scenes, where it fits.
 fn write_scenes(table: &[u32], n: usize, words: &[u32], book: &mut [u32])
     requires { ⌜ CanWrite n (now table) (now words) (now book) ⌝ }
-    ensures { λ _. ⌜ now (book .exit) ≡ sets (now (book .entry)) 0 (bookOf (scenesIn (now (words .entry)) (entries n (now (table .entry))))) ⌝ }
+    ensures { λ _. ⌜ left book ≡ sets (given book) 0 (bookOf (scenesIn (given words) (entries n (given table)))) ⌝ }
 {
     book[0] = n as u32;
     let mut at = 1 + 3 * n;
@@ -230,14 +233,14 @@ fn write_scenes(table: &[u32], n: usize, words: &[u32], book: &mut [u32])
 }
 
 fn no_book(verdict: u32) -> BookAnswer
-    ensures { λ r. ⌜ r ≡ record { verdict = verdict; words = 0 } ⌝ }
+    ensures { λ r. ⌜ r ≡ bookAnswer verdict 0 ⌝ }
 {
     BookAnswer { verdict, words: 0 }
 }
 
 // The book of a table's scenes, over a buffer where its starts count.
 pub fn write_book(table: &[u32], words: &[u32], book: &mut [u32]) -> BookAnswer
-    ensures { λ r. ⌜ record { answer = r; buffer = now (book .exit) } ≡ writingBook (now (table .entry)) (now (words .entry)) (now (book .entry)) ⌝ }
+    ensures { λ r. ⌜ bookOutcome r (left book) ≡ writingBook (given table) (given words) (given book) ⌝ }
 {
     let n = table.len() / 3;
     if (table.len() % 3 != 0) | (256 < n) {

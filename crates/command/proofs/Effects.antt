@@ -5,20 +5,19 @@ use native.Mathlib.Omega.{arith}
 use mathlib.Core.Path.{_≡_, refl, ap, ap₂, sym, _∙_}
 use mathlib.Core.Bool.{Bool, true, false, cond}
 use mathlib.Core.List.{List, [], _∷_}
-use borrow.Author.Tests.{not-true}
 use lib.ListN.{length, set, take, drop, length-drop}
 use lib.Seq.{sets, length-take-le}
-use Rattle.rules.specs.Table.{Kind, setting, plain, keeps, begins, rowOf, isSetting}
+use Rattle.rules.specs.Table.{Kind, setting, plain, keeps, begins, rowOf, isSetting, isBegin}
 use Rattle.rules.specs.Command.{payload}
 use Rattle.rules.specs.Image.{leave, apply}
-use Rattle.theory.proofs.Bools.{and-left, and-right}
 use Rattle.theory.proofs.Rows.{Setting, setting-fits, setting-payload}
 use Rattle.theory.proofs.Form.{is-setting}
-use Rattle.table.specs.Ids.{ofRow, beginId, settingId, groupId, settingKind}
+use Rattle.table.specs.Ids.{ofRow, beginId, settingId, keepsHeader, keptId, groupId, settingKind}
 use Rattle.table.specs.Tables.{more, rowAt, groupAt}
-use Rattle.command.specs.View.{sizeAt, OwnAt}
-use Rattle.table.proofs.Tables.{Known, known, keptId, leavesAs}
-use Rattle.command.proofs.Decoding.{group-words, size-known, size-group, size-single}
+use Rattle.command.specs.View.{sizeAt}
+use Rattle.table.proofs.Tables.{Known, known}
+use Rattle.command.proofs.Sizes.{size-known, size-group, size-single}
+use Rattle.command.proofs.Decoding.{group-words}
 use Rattle.command.specs.Effects.{idAt, headerAt, commandAt, CommandAt, recordAt}
 
 -- ---- the kinds of the set
@@ -74,11 +73,8 @@ module _ (l : List ℕ) (at : ℕ) (h : CommandAt l at) where
   k = known id (h .small) (h .known)
 
   -- its own words are there
-  group-inside : groupId (idAt l at) ≡ true → sizeAt l at ≡ suc (length (rowAt (idAt l at) .more) + payload (rowAt (idAt l at) .id) (headerAt l at) (take (length (rowAt (idAt l at) .more)) (drop (suc at) l))) → at + 4 ≤ length l
-  group-inside g s = omega (arith, h .inside, k .length-more ∙ ap (λ (b : Bool). cond b 3 0) g)
-
-  pub own-at : OwnAt l at
-  own-at = record { inside = h .start; group = λ g. group-inside g (size-known l at id refl (h .small) k) }
+  group-inside : groupId (idAt l at) ≡ true → at + 4 ≤ length l
+  group-inside g = omega (arith, h .inside, size-group l at id refl (h .small) g)
 
   kind-of-row : isSetting (rowAt id .kind) ≡ settingId id
   unfolding settingId
@@ -112,8 +108,8 @@ module _ (l : List ℕ) (at : ℕ) (h : CommandAt l at) where
       let p = kind-two (settingId id) (groupId id) e in
       let s = setting-row (p .0) in
       let n : length (rowAt id .more) ≡ 3 = k .length-more ∙ ap (λ (b : Bool). cond b 3 0) (p .1) in
-      let inside′ = own-at .group (p .1) in
-      let size′ : sizeAt l at ≡ 4 + payload id (headerAt l at) (more (groupAt l at)) = size-group l at id refl (h .small) (p .1) inside′ in
+      let inside′ = group-inside (p .1) in
+      let size′ : sizeAt l at ≡ 4 + payload id (headerAt l at) (more (groupAt l at)) = size-group l at id refl (h .small) (p .1) in
       let no-payload : payload (rowAt id .id) (headerAt l at) (more (groupAt l at)) ≡ 0 = setting-payload (rowAt id) s (headerAt l at) (more (groupAt l at)) in
       record {
         size = size′ ∙ ap (λ (i : ℕ). 4 + payload i (headerAt l at) (more (groupAt l at))) (sym (k .own-id)) ∙ ap (λ (m : ℕ). 4 + m) no-payload;
@@ -136,19 +132,19 @@ module _ (l : List ℕ) (at : ℕ) (h : CommandAt l at) where
 
   -- ---- work
 
-  by-kind : (t : Kind) (x : ℕ) (ws image : List ℕ) → leavesAs t id ≡ true → isSetting t ≡ false
-      → leave t id x ws image ≡ cond (keptId id) (cond (beginId id) (set image 0x08 x) (set image id x)) image
-  by-kind setting x ws image e f = let z : _≡_ {A = Bool} true false = f in let y : _≡_ {A = ℕ} 0 1 = cc in absurd (omega arith)
-  by-kind plain x ws image e f = rw (not-true (keptId id) e)
-  by-kind keeps x ws image e f = rw (and-left (keptId id) _ e, not-true (beginId id) (and-right (keptId id) _ e))
-  by-kind begins x ws image e f = rw (and-left (keptId id) _ e, and-right (keptId id) _ e)
+  by-kind : (t : Kind) (x : ℕ) (ws image : List ℕ) → isSetting t ≡ false
+      → leave t id x ws image ≡ cond (keepsHeader t) (cond (isBegin t) (set image 0x08 x) (set image id x)) image
+  by-kind setting x ws image f = let z : _≡_ {A = Bool} true false = f in let y : _≡_ {A = ℕ} 0 1 = cc in absurd (omega arith)
+  by-kind plain x ws image f = refl
+  by-kind keeps x ws image f = refl
+  by-kind begins x ws image f = refl
 
   pub record IsWork : Type 0 where
     pub record-is : recordAt l at ≡ idAt l at ∷ at ∷ sizeAt l at ∷ headerAt l at ∷ []
     pub image-is : (image : List ℕ) → apply (commandAt l at) image ≡ cond (keptId (idAt l at)) (cond (beginId (idAt l at)) (set image 0x08 (headerAt l at)) (set image (idAt l at) (headerAt l at))) image
 
   pub is-work : settingKind (idAt l at) ≡ 0 → IsWork
-  unfolding settingKind commandAt
+  unfolding settingKind commandAt keptId beginId
   is-work e =
       let w = kind-of-row ∙ kind-none (settingId id) (groupId id) e in
       let s = size-known l at id refl (h .small) k in
@@ -156,5 +152,5 @@ module _ (l : List ℕ) (at : ℕ) (h : CommandAt l at) where
       (omega (arith, h .inside, length-drop (suc at) l)) in
       record {
         record-is = rw w (ap₂ {C = List ℕ} (λ i m. i ∷ at ∷ m ∷ headerAt l at ∷ []) (k .own-id) (ap suc n ∙ sym s));
-        image-is = λ image. rw (k .own-id) (by-kind (rowAt id .kind) (headerAt l at) _ image (k .leaves) w);
+        image-is = λ image. rw (k .own-id, k .found) (by-kind (rowAt id .kind) (headerAt l at) _ image w);
       }

@@ -1,4 +1,4 @@
 pub mod Decoding
-pub mod Sized
+pub mod Sizes
 pub mod Effects
 pub mod Standing

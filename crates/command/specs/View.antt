@@ -1,9 +1,9 @@
 -- The command at a position of a list, as the code has it.
-use Prim.Native.Nat.{ℕ, suc, _+_, _≤_, _<_}
+use Prim.Native.Nat.{ℕ, suc, _+_, _<_}
 use mathlib.Core.Path.{_≡_}
-use mathlib.Core.Bool.{true, false}
+use mathlib.Core.Bool.{true, false, cond}
 use mathlib.Core.List.{List}
-use lib.Dec.{eqb, leb}
+use lib.Dec.{eqb, ltb}
 use lib.ListN.{length, getD, drop}
 use Rattle.rules.specs.Word.{idOf}
 use Rattle.rules.specs.Table.{isSetting, isBegin, isBase}
@@ -14,23 +14,14 @@ use Rattle.rules.specs.Decode.{Decoded, bad, good, decode}
 use Rattle.command.specs.declared.Command.{Command as Kept}
 use Rattle.command.specs.declared.Decoded.{Decoded as Decoded′}
 use Rattle.command.specs.declared.Decoded.the-variants.{Command, Refused}
-use Rattle.table.specs.Ids.{groupId}
-use Rattle.table.specs.Tables.{baseRow, timerRow, beginRow, clipRow, rowCount, rowNumber}
+use Rattle.table.specs.declared.Group.{Group}
+use Rattle.table.specs.Tables.{beginRow, baseRow, settingRow, rowCount, rowNumber}
+use Rattle.values.specs.First.{found}
+use Rattle.faults.specs.Faults.{valueFault}
 
 -- the words of the command at a position, payload included
 abbrev pub sizeAt : List ℕ → ℕ → ℕ
 sizeAt l at = commandSize (getD l at 0) (drop (suc at) l)
-
--- a command's own words stand at a position
-pub record OwnAt (l : List ℕ) (at : ℕ) : Type 0 where
-  pub inside : at < length l
-  pub group : groupId (idOf (getD l at 0)) ≡ true → at + 4 ≤ length l
-
--- a command's words, as far as the words of a list go
-pub record Sized (l : List ℕ) (at n : ℕ) : Type 0 where
-  pub exact : at + n ≤ length l → n ≡ sizeAt l at
-  pub beyond : length l < at + n → length l < at + sizeAt l at
-  pub some : 0 < n
 
 abbrev pub refusedAt : ℕ → ℕ → Decoded′
 refusedAt n p = Refused (refusal n p)
@@ -46,10 +37,18 @@ view at (good c) = Command (kept c)
 
 -- the same by the number of its row, of one word and of four
 abbrev pub singleOf : ℕ → Decoded′
-singleOf row = Command (record { words = 1; setting = leb timerRow row; begin = false; base = eqb row baseRow })
+singleOf row = Command (record { words = 1; setting = settingRow false row; begin = false; base = eqb row baseRow })
 
 abbrev pub groupOf : ℕ → ℕ → Decoded′
-groupOf n row = Command (record { words = n; setting = leb clipRow row; begin = eqb row beginRow; base = false })
+groupOf n row = Command (record { words = n; setting = settingRow true row; begin = eqb row beginRow; base = false })
+
+-- a command whose values break no rule, else its refusal
+abbrev pub ifLegal : ℕ → ℕ → Group → Decoded′ → Decoded′
+ifLegal at id g d = cond (found (valueFault id g)) (Refused (shift at (valueFault id g))) d
+
+-- a group of some words, or 9 where the list ends before
+abbrev pub wholeGroup : List ℕ → ℕ → ℕ → ℕ → Decoded′
+wholeGroup l at n row = cond (ltb (length l) (at + n)) (refusedAt 9 at) (groupOf n row)
 
 -- refusals 3 to 9 of the command at a position, or the command
 unfoldable pub decodedAt : List ℕ → ℕ → Decoded′

@@ -7,13 +7,15 @@ ghost use mathlib.Core.Path.{_≡_};
 ghost use mathlib.Core.Bool.{true, false};
 ghost use Prim.Native.Nat.{_+_, _^_, _<_, _≤_};
 ghost use lib.ListN.{length};
-ghost use Rattle.rules.specs.Command.{payload};
+ghost use Rattle.rules.specs.Table.{rowOf};
+ghost use Rattle.rules.specs.Command.{payload, sizeOf};
 ghost use Rattle.rules.specs.Values.{shift};
 ghost use Rattle.rules.specs.Decode.{unknown};
 ghost use Rattle.table.specs.Ids.{groupId};
 ghost use Rattle.table.specs.Tables.{maskTable, more, groupAt};
 ghost use Rattle.command.specs.declared.Decoded.the-variants as decoded;
-ghost use Rattle.command.specs.View.{sizeAt, OwnAt, decodedAt, refusedAt, singleOf, groupOf, KnownAt};
+ghost use Rattle.faults.specs.Faults.{valueFault};
+ghost use Rattle.command.specs.View.{sizeAt, decodedAt, refusedAt, singleOf, groupOf, ifLegal, wholeGroup, KnownAt};
 
 // A decoded command: its words with payload, and whether it is a setting, a BEGIN, a surface base.
 pub struct Command {
@@ -54,16 +56,30 @@ pub fn payload(id: u8, g: Group) -> usize
     0
 }
 
-// The words of the command at a position, payload included.
-pub fn command_size(list: &[u32], at: usize) -> usize
-    requires { ⌜ OwnAt (now list) at ⌝ }
-    ensures { λ r. ⌜ r ≡ sizeAt (now (list .entry)) at ⌝ }
+// The words of a command, payload included, by its own words: right for every id. Of a command of one word the others are not
+// asked for.
+pub fn size(id: u8, g: Group) -> usize
+    ensures { λ r. ⌜ r ≡ sizeOf (g .header) (more g) (rowOf id) ⌝ }
 {
-    let id = words::id_of(words::fetch(list, at));
     if table::is_group(id) {
-        return 4 + payload(id, group_at(list, at));
+        return 4 + payload(id, g);
     }
     1
+}
+
+// The words of the command at a position, of one that is cut too.
+pub fn size_at(list: &[u32], at: usize) -> usize
+    requires { ⌜ at < length (now list) ⌝ }
+    ensures { λ r. ⌜ r ≡ sizeAt (now (list .entry)) at ⌝ }
+{
+    let w = words::fetch(list, at);
+    let g = Group {
+        header: words::header_of(w),
+        second: words::fetch_or_zero(list, at + 1),
+        third: words::fetch_or_zero(list, at + 2),
+        fourth: words::fetch_or_zero(list, at + 3),
+    };
+    size(words::id_of(w), g)
 }
 
 // ---- decoding
@@ -105,7 +121,7 @@ pub fn single_command(row: u8) -> Decoded
 {
     Decoded::Command(Command {
         words: 1,
-        setting: table::TIMER <= row,
+        setting: (row == table::TIMER) | (table::EXTENDED_BASE <= row),
         begin: false,
         base: row == table::SURFACE_BASE,
     })
@@ -123,6 +139,54 @@ pub fn group_command(words: usize, row: u8) -> Decoded
     })
 }
 
+// The first rule on values that a group breaks: refusals 7 and 15 to 19.
+fn refused_values(at: usize, id: u8, g: Group) -> Decoded
+    requires { ⌜ at + 4 < 2 ^ 64 ⌝ }
+    ensures { λ r. ⌜ r ≡ decoded.Refused (shift at (valueFault id g)) ⌝ }
+{
+    refused_fault(
+        at,
+        faults::value_fault(id, g.header, g.second, g.third, g.fourth),
+    )
+}
+
+// A primitive, of which only the null one is known, by its own words, which have no undefined bit.
+pub fn primitive_command(at: usize, row: u8, g: Group) -> Decoded
+    requires { ⌜ at + 4 < 2 ^ 64 ⌝ }
+    ensures { λ r. ⌜ r ≡ ifLegal at 0x48 g (groupOf 4 row) ⌝ }
+{
+    if faults::bad_primitive(g) {
+        return refused_values(at, 0x48, g);
+    }
+    group_command(4, row)
+}
+
+// The same of a group that is no load and no primitive: BEGIN and the settings.
+pub fn other_command(at: usize, id: u8, row: u8, g: Group) -> Decoded
+    requires { ⌜ (at + 4 < 2 ^ 64) × (id ≡ 0x40 → ⊥) × (id ≡ 0x48 → ⊥) ⌝ }
+    ensures { λ r. ⌜ r ≡ ifLegal at id g (groupOf 4 row) ⌝ }
+{
+    if faults::bad_other(id, g.header, g.second, g.third, g.fourth) {
+        return refused_values(at, id, g);
+    }
+    group_command(4, row)
+}
+
+// The same of a load, with its payload: refusal 9 too.
+fn load_command(list: &[u32], at: usize, row: u8, g: Group) -> Decoded
+    requires { ⌜ at + 4 ≤ length (now list) ⌝ }
+    ensures { λ r. ⌜ r ≡ ifLegal at 0x40 g (wholeGroup (now (list .entry)) at (4 + payload 0x40 (g .header) (more g)) row) ⌝ }
+{
+    if faults::bad_load(g) {
+        return refused_values(at, 0x40, g);
+    }
+    let words = 4 + payload(0x40, g);
+    if list.len() < at + words {
+        return refused(9, at);
+    }
+    group_command(words, row)
+}
+
 // A command of one word: refusal 6.
 pub fn decode_single(masks: &Masks, list: &[u32], at: usize, id: u8, row: u8) -> Decoded
     requires { ⌜ KnownAt (now list) at id row × (groupId id ≡ false) × (now masks ≡ maskTable) ⌝ }
@@ -130,13 +194,12 @@ pub fn decode_single(masks: &Masks, list: &[u32], at: usize, id: u8, row: u8) ->
 {
     let header = words::header_of(words::fetch(list, at));
     if masks::undefined(header, masks::mask(masks, row, 0)) {
-        return refused_fault(at, faults::first_fault(row, id, header, 0, 0, 0));
+        return refused_fault(at, faults::undefined_fault(row, header, 0, 0, 0));
     }
     single_command(row)
 }
 
-// A command of four words and its payload: refusals 5, 6, 7, 15 to 19 and 9. Only where there is payload is the list's end
-// looked for again.
+// A command of four words and its payload: refusals 5, 6, 7, 15 to 19 and 9.
 pub fn decode_group(masks: &Masks, list: &[u32], at: usize, id: u8, row: u8) -> Decoded
     requires { ⌜ KnownAt (now list) at id row × (groupId id ≡ true) × (now masks ≡ maskTable) ⌝ }
     ensures { λ r. ⌜ r ≡ decodedAt (now (list .entry)) at ⌝ }
@@ -148,21 +211,14 @@ pub fn decode_group(masks: &Masks, list: &[u32], at: usize, id: u8, row: u8) -> 
     if faults::undefined_bits(masks, row, g) {
         return refused_fault(
             at,
-            faults::first_fault(row, id, g.header, g.second, g.third, g.fourth),
+            faults::undefined_fault(row, g.header, g.second, g.third, g.fourth),
         );
     }
-    if faults::bad_values(id, g.header, g.second, g.third, g.fourth) {
-        return refused_fault(
-            at,
-            faults::first_fault(row, id, g.header, g.second, g.third, g.fourth),
-        );
+    if id == 0x48 {
+        return primitive_command(at, row, g);
     }
-    let more = payload(id, g);
-    if 0 < more {
-        if list.len() < at + (4 + more) {
-            return refused(9, at);
-        }
-        return group_command(4 + more, row);
+    if id == 0x40 {
+        return load_command(list, at, row, g);
     }
-    group_command(4, row)
+    other_command(at, id, row, g)
 }

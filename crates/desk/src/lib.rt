@@ -3,6 +3,7 @@ use rules::Answer;
 use rules::NO_BIT;
 use rules::Refusal;
 ghost use mathlib.Core.Path.{_≡_};
+ghost use Rattle.rules.specs.Lent.{given, left};
 ghost use mathlib.Core.List.{List, []};
 ghost use Prim.Native.Nat.{ℕ, _≤_};
 ghost use lib.ListN.{length};
@@ -54,7 +55,7 @@ fn finish(
     out: &mut [u8; 32768],
 ) -> Sizes
     requires { ⌜ length (now words) ≤ 8192 ⌝ }
-    ensures { λ r. ⌜ Makes (make a (now (list .entry)) (now (pairs .entry)) bytes (now (words .entry))) (now (text .entry)) (now (out .entry)) (now (text .exit)) (now (out .exit)) r ⌝ }
+    ensures { λ r. ⌜ Makes (make a (given list) (given pairs) bytes (given words)) (given text) (given out) (left text) (left out) r ⌝ }
 {
     let verdict = verdict::put_verdict(text, a, list, pairs, bytes);
     endian::store(words, out);
@@ -80,7 +81,7 @@ fn finish(
 
 // At most 310,000 bytes of text, and none to write.
 fn show(list: &[u32], image: &[u32; 256], text: &mut [u8]) -> Sizes
-    ensures { λ r. ⌜ ((out : List ℕ) → Makes (perform task.Show (now (list .entry)) (now (image .entry))) (now (text .entry)) out (now (text .exit)) out r) ⌝ }
+    ensures { λ r. ⌜ ((out : List ℕ) → Makes (perform task.Show (given list) (given image)) (given text) out (left text) out r) ⌝ }
 {
     let size = show::put_show(text, list, image);
     Sizes {
@@ -98,13 +99,13 @@ fn finish_image(
     text: &mut [u8],
     out: &mut [u8; 32768],
 ) -> Sizes
-    ensures { λ r. ⌜ Makes (make a (now (list .entry)) [] 1024 (now (after .entry))) (now (text .entry)) (now (out .entry)) (now (text .exit)) (now (out .exit)) r ⌝ }
+    ensures { λ r. ⌜ Makes (make a (given list) [] 1024 (given after)) (given text) (given out) (left text) (left out) r ⌝ }
 {
     finish(a, list, &[], 1024, after, text, out)
 }
 
 fn image_after(list: &[u32], image: &[u32; 256], text: &mut [u8], out: &mut [u8; 32768]) -> Sizes
-    ensures { λ r. ⌜ Makes (perform task.Image (now (list .entry)) (now (image .entry))) (now (text .entry)) (now (out .entry)) (now (text .exit)) (now (out .exit)) r ⌝ }
+    ensures { λ r. ⌜ Makes (perform task.Image (given list) (given image)) (given text) (given out) (left text) (left out) r ⌝ }
 {
     let mut after = *image;
     let mut records = [0u32; 16384];
@@ -116,7 +117,7 @@ fn image_after(list: &[u32], image: &[u32; 256], text: &mut [u8], out: &mut [u8;
 }
 
 fn normalise(list: &[u32], image: &[u32; 256], text: &mut [u8], out: &mut [u8; 32768]) -> Sizes
-    ensures { λ r. ⌜ Makes (perform task.Normalise (now (list .entry)) (now (image .entry))) (now (text .entry)) (now (out .entry)) (now (text .exit)) (now (out .exit)) r ⌝ }
+    ensures { λ r. ⌜ Makes (perform task.Normalise (given list) (given image)) (given text) (given out) (left text) (left out) r ⌝ }
 {
     let mut form = [0u32; 4096];
     let a = form::normalise(list, image, &mut form);
@@ -125,7 +126,7 @@ fn normalise(list: &[u32], image: &[u32; 256], text: &mut [u8], out: &mut [u8; 3
 }
 
 fn to_pci(list: &[u32], image: &[u32; 256], text: &mut [u8], out: &mut [u8; 32768]) -> Sizes
-    ensures { λ r. ⌜ Makes (perform task.Pci (now (list .entry)) (now (image .entry))) (now (text .entry)) (now (out .entry)) (now (text .exit)) (now (out .exit)) r ⌝ }
+    ensures { λ r. ⌜ Makes (perform task.Pci (given list) (given image)) (given text) (given out) (left text) (left out) r ⌝ }
 {
     let mut pairs = [0u32; 8192];
     let a = pci_writer::to_pci(list, image, &mut pairs);
@@ -135,7 +136,7 @@ fn to_pci(list: &[u32], image: &[u32; 256], text: &mut [u8], out: &mut [u8; 3276
 
 fn from_pci(pairs: &[u32], image: &[u32; 256], text: &mut [u8], out: &mut [u8; 32768]) -> Sizes
     requires { ⌜ length (now pairs) ≤ 8193 ⌝ }
-    ensures { λ r. ⌜ Makes (perform task.List (now (pairs .entry)) (now (image .entry))) (now (text .entry)) (now (out .entry)) (now (text .exit)) (now (out .exit)) r ⌝ }
+    ensures { λ r. ⌜ Makes (perform task.List (given pairs) (given image)) (given text) (given out) (left text) (left out) r ⌝ }
 {
     let mut list = [0u32; 4096];
     let a = pci_reader::from_pci(pairs, image, &mut list);
@@ -156,7 +157,7 @@ fn perform(
     out: &mut [u8; 32768],
 ) -> Sizes
     requires { ⌜ length (now words) ≤ 8193 ⌝ }
-    ensures { λ r. ⌜ Makes (perform task (now (words .entry)) (now (image .entry))) (now (text .entry)) (now (out .entry)) (now (text .exit)) (now (out .exit)) r ⌝ }
+    ensures { λ r. ⌜ Makes (perform task (given words) (given image)) (given text) (given out) (left text) (left out) r ⌝ }
 {
     match task {
         Task::Show => show(words, image, text),
@@ -215,7 +216,7 @@ fn size_fault(limit: usize, input: usize, image: usize) -> Fault
 
 // What a task makes of the bytes of a list, or of pairs, and of an image: at most 310,000 bytes of text.
 pub fn run(task: Task, input: &[u8], image: &[u8], text: &mut [u8], out: &mut [u8; 32768]) -> Sizes
-    ensures { λ r. ⌜ Makes (made task (now (input .entry)) (now (image .entry))) (now (text .entry)) (now (out .entry)) (now (text .exit)) (now (out .exit)) r ⌝ }
+    ensures { λ r. ⌜ Makes (made task (given input) (given image)) (given text) (given out) (left text) (left out) r ⌝ }
 {
     let fault = size_fault(most(task), input.len(), image.len());
     if let Fault::Found(f) = fault {

@@ -13,7 +13,7 @@ use Rattle.command.specs.View.{sizeAt}
 use Rattle.command.specs.Effects.{idAt, CommandAt}
 use Rattle.draft.specs.declared.Draft.{Draft}
 use Rattle.settings.specs.Numbers.{numberOf}
-use Rattle.settings.specs.Output.{longest, Output, emitChanged, CanEmitChanged}
+use Rattle.settings.specs.Output.{longest, Output, put, emitChanged, CanEmitChanged}
 
 -- where the form stands, where each setting was last set, where its command last put out stands, and the buffer
 pub record Drafted : Type 0 where
@@ -22,32 +22,32 @@ pub record Drafted : Type 0 where
   pub sent : List ℕ
   pub out : List ℕ
 
+abbrev pub made : Draft → List ℕ → List ℕ → List ℕ → Drafted
+made d latest sent out = record { draft = d; latest = latest; sent = sent; out = out }
+
+abbrev pub draftAt : ℕ → ℕ → ℕ → Draft
+draftAt at written changed = record { at = at; written = written; changed = changed }
+
 abbrev pub outputOf : Drafted → Output
-outputOf s = record { written = s .draft .written; sent = s .sent; out = s .out }
+outputOf s = put (s .draft .written) (s .sent) (s .out)
+
+-- behind a setting of some words
+abbrev pub behindSetting : Draft → ℕ → ℕ → Draft
+behindSetting d id words = draftAt (d .at + words) (d .written) (bitOr (d .changed) (2 ^ numberOf id))
 
 -- a setting is the latest of its number
 abbrev pub afterSetting : List ℕ → Drafted → Drafted
 afterSetting l s =
     let at = s .draft .at in
     let k = numberOf (idAt l at) in
-    record {
-      draft = record { at = at + sizeAt l at; written = s .draft .written; changed = bitOr (s .draft .changed) (2 ^ k) };
-      latest = set (s .latest) k at;
-      sent = s .sent;
-      out = s .out;
-    }
+    made (behindSetting (s .draft) (idAt l at) (sizeAt l at)) (set (s .latest) k at) (s .sent) (s .out)
 
 -- before a work command the settings that differ are put out
 abbrev pub afterWork : List ℕ → List ℕ → Drafted → Drafted
 afterWork l image s =
     let at = s .draft .at in
     let o = emitChanged (s .draft .changed) l image (s .latest) (outputOf s) in
-    record {
-      draft = record { at = at + sizeAt l at; written = o .written + sizeAt l at; changed = 0 };
-      latest = s .latest;
-      sent = o .sent;
-      out = sets (o .out) (o .written) (read l at (sizeAt l at));
-    }
+    made (draftAt (at + sizeAt l at) (o .written + sizeAt l at) 0) (s .latest) (o .sent) (sets (o .out) (o .written) (read l at (sizeAt l at)))
 
 unfoldable pub afterCommand : List ℕ → List ℕ → Drafted → Drafted
 afterCommand l image s =

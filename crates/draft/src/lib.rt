@@ -4,6 +4,7 @@
 // crates/settings has them.
 use table::Settings;
 ghost use mathlib.Core.Path.{_≡_};
+ghost use Rattle.rules.specs.Lent.{given, left};
 ghost use Prim.Native.Nat.{_+_, _-_, _^_, _<_, _≤_, min};
 ghost use lib.Bits.{bitOr};
 ghost use lib.ListN.{length, set};
@@ -11,7 +12,7 @@ ghost use lib.Seq.{sets};
 ghost use Rattle.rules.specs.Form.{read};
 ghost use Rattle.settings.specs.Numbers.{numberOf};
 ghost use Rattle.settings.specs.Output.{longest};
-ghost use Rattle.draft.specs.Drafts.{afterWork, afterCommand, CanWork, CanTake};
+ghost use Rattle.draft.specs.Drafts.{made, behindSetting, afterWork, afterCommand, CanWork, CanTake};
 
 // Where the form stands: the position in the list, the words written, and the settings set since the last work command.
 pub struct Draft {
@@ -37,7 +38,7 @@ fn room_for(words: usize, n: usize, len: usize) -> usize
 // Some words of a list.
 fn copy(list: &[u32], at: usize, words: usize, out: &mut [u32], n: usize)
     requires { ⌜ (length (now list) ≤ longest) × (at + words ≤ length (now list)) × (n ≤ longest) ⌝ }
-    ensures { λ _. ⌜ now (out .exit) ≡ sets (now (out .entry)) n (read (now (list .entry)) at words) ⌝ }
+    ensures { λ _. ⌜ left out ≡ sets (given out) n (read (given list) at words) ⌝ }
 {
     let m = room_for(words, n, out.len());
     let mut i: usize = 0;
@@ -56,11 +57,11 @@ fn emit_work(
     sent: &mut [u16; 64],
     out: &mut [u32],
 ) -> Draft
-    requires { ⌜ CanWork (now list) (now image) (record { draft = d; latest = now latest; sent = now sent; out = now out }) ⌝ }
-    ensures { λ r. ⌜ record { draft = r; latest = now (latest .entry); sent = now (sent .exit); out = now (out .exit) } ≡ afterWork (now (list .entry)) (now (image .entry)) (record { draft = d; latest = now (latest .entry); sent = now (sent .entry); out = now (out .entry) }) ⌝ }
+    requires { ⌜ CanWork (now list) (now image) (made d (now latest) (now sent) (now out)) ⌝ }
+    ensures { λ r. ⌜ made r (given latest) (left sent) (left out) ≡ afterWork (given list) (given image) (made d (given latest) (given sent) (given out)) ⌝ }
 {
     let at = d.at;
-    let words = command::command_size(list, at);
+    let words = command::size_at(list, at);
     let n = settings::emit_settings(d.changed, list, image, latest, sent, out, d.written);
     copy(list, at, words, out, n);
     Draft {
@@ -73,7 +74,8 @@ fn emit_work(
 // A setting: its command is the latest of its number, which is below 64, rises with the id, and is below 16 for one word.
 fn take_setting(d: Draft, id: u8, words: usize, latest: &mut [u16; 64]) -> Draft
     requires { ⌜ (d .at ≤ longest) × (words ≤ longest) × (numberOf id < 64) ⌝ }
-    ensures { λ r. ⌜ (r ≡ record { at = d .at + words; written = d .written; changed = bitOr (d .changed) (2 ^ numberOf id) }) × (now (latest .exit) ≡ set (now (latest .entry)) (numberOf id) (d .at)) ⌝ }
+    ensures { λ r. ⌜ r ≡ behindSetting d id words ⌝ }
+    ensures { λ _. ⌜ left latest ≡ set (given latest) (numberOf id) (d .at) ⌝ }
 {
     let i = (id / 4 + id % 2) as u32;
     latest[i as usize] = d.at as u16;
@@ -93,8 +95,8 @@ pub fn take_command(
     sent: &mut [u16; 64],
     out: &mut [u32],
 ) -> Draft
-    requires { ⌜ CanTake (now list) (now image) (record { draft = d; latest = now latest; sent = now sent; out = now out }) ⌝ }
-    ensures { λ r. ⌜ record { draft = r; latest = now (latest .exit); sent = now (sent .exit); out = now (out .exit) } ≡ afterCommand (now (list .entry)) (now (image .entry)) (record { draft = d; latest = now (latest .entry); sent = now (sent .entry); out = now (out .entry) }) ⌝ }
+    requires { ⌜ CanTake (now list) (now image) (made d (now latest) (now sent) (now out)) ⌝ }
+    ensures { λ r. ⌜ made r (left latest) (left sent) (left out) ≡ afterCommand (given list) (given image) (made d (given latest) (given sent) (given out)) ⌝ }
 {
     let id = words::id_of(words::fetch(list, d.at));
     let kind = Settings::kind(id);

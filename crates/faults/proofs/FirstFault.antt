@@ -10,9 +10,9 @@ use lib.ListN.{length, take}
 use Rattle.rules.specs.declared.Refusal.{Refusal}
 use Rattle.rules.specs.Word.{undefined}
 use Rattle.rules.specs.Table.{Row}
-use Rattle.rules.specs.Values.{refusal, Fault, undefinedFaults, valueFaults, faults}
-use Rattle.rules.specs.Decode.{Decoded, bad, firstFault}
-use Rattle.theory.proofs.Numbers.{Proper, not-zero}
+use Rattle.rules.specs.Values.{refusal, Fault, firstFault, undefinedFaults, valueFaults, faults}
+use Rattle.rules.specs.Decode.{Decoded, bad}
+use Rattle.theory.proofs.Numbers.{Proper, not-zero, values-proper}
 use Rattle.theory.proofs.Lowest.{all-ones-defined}
 use Rattle.theory.proofs.Refusals.{OfFaults}
 use Rattle.table.specs.declared.Group.{Group}
@@ -21,7 +21,7 @@ use Rattle.table.specs.Tables.{more, rowNumber, rowAt, maskOf, maskAt}
 use Rattle.table.proofs.Tables.{Known, ruled}
 use Rattle.values.specs.declared.Faults.{Faults}
 use Rattle.values.specs.First.{firstRefusal, found, noRefusal, firstOf}
-use Rattle.faults.specs.Faults.{unlessDefined, firstUndefined, own, anyUndefined}
+use Rattle.faults.specs.Faults.{unlessDefined, firstUndefined, own, anyUndefined, valueFault}
 
 no-case : {A : Type 0} (a b c d : Bool) (w x y z e : A) → ((a || b) || (c || d)) ≡ false → cond a w (cond b x (cond c y (cond d z e))) ≡ e
 no-case true _ _ _ w x y z e f = let u : _≡_ {A = Bool} true false = f in cc
@@ -79,14 +79,44 @@ found-first false false true _ p q r s next e f g h = sym g
 found-first false false false true p q r s next e f g h = sym h
 found-first false false false false p q r s next e f g h = refl
 
--- whether there is one
-pub faulty-is : (id : ℕ) (g : Group) → Known id
-    → anyUndefined (rowNumber id) g || found (firstRefusal (valueFaults id (g .header) (more g)))
-    ≡ found (firstRefusal (faults (rowAt id) (g .header) (own (rowAt id) g)))
-faulty-is id g k =
-    let n : ℕ = rowNumber id in
-    found-first (undefined (g .header) (maskAt n 0)) (undefined (g .second) (maskAt n 1)) (undefined (g .third) (maskAt n 2)) (undefined (g .fourth) (maskAt n 3))
-    _ _ _ _ (firstRefusal (valueFaults id (g .header) (more g))) refl refl refl refl ∙ ap found (fault-is id g k)
+some-case : (a b c d : Bool) (p q r s x y : Refusal) → ((a || b) || (c || d)) ≡ true
+    → cond a p (cond b q (cond c r (cond d s x))) ≡ cond a p (cond b q (cond c r (cond d s y)))
+some-case true _ _ _ p q r s x y f = refl
+some-case false true _ _ p q r s x y f = refl
+some-case false false true _ p q r s x y f = refl
+some-case false false false true p q r s x y f = refl
+some-case false false false false p q r s x y f = let u : _≡_ {A = Bool} false true = f in cc
+
+near-case : (a b c d : Bool) (p q r s x : Refusal) → p .word ≤ 3 → q .word ≤ 3 → r .word ≤ 3 → s .word ≤ 3 → x .word ≤ 3
+    → cond a p (cond b q (cond c r (cond d s x))) .word ≤ 3
+near-case true _ _ _ p q r s x e f g h i = e
+near-case false true _ _ p q r s x e f g h i = f
+near-case false false true _ p q r s x e f g h i = g
+near-case false false false true p q r s x e f g h i = h
+near-case false false false false p q r s x e f g h i = i
+
+-- the words of a group against the masks of a row: one has an undefined bit, or none
+module _ (n : ℕ) (g : Group) where
+  pub undefined-found : anyUndefined n g ≡ true → found (firstUndefined n g noRefusal) ≡ true
+  undefined-found t =
+      sym (found-first (undefined (g .header) (maskAt n 0)) (undefined (g .second) (maskAt n 1)) (undefined (g .third) (maskAt n 2)) (undefined (g .fourth) (maskAt n 3))
+      _ _ _ _ noRefusal refl refl refl refl) ∙ ap (λ (b : Bool). b || false) t
+
+  pub undefined-first : anyUndefined n g ≡ true → (next : Refusal) → firstUndefined n g next ≡ firstUndefined n g noRefusal
+  undefined-first t next =
+      some-case (undefined (g .header) (maskAt n 0)) (undefined (g .second) (maskAt n 1)) (undefined (g .third) (maskAt n 2)) (undefined (g .fourth) (maskAt n 3))
+      _ _ _ _ next noRefusal t
+
+  pub defined-next : anyUndefined n g ≡ false → (next : Refusal) → firstUndefined n g next ≡ next
+  defined-next t next =
+      no-case (undefined (g .header) (maskAt n 0)) (undefined (g .second) (maskAt n 1)) (undefined (g .third) (maskAt n 2)) (undefined (g .fourth) (maskAt n 3))
+      _ _ _ _ next t
+
+  pub undefined-near : (f : Refusal) → f ≡ firstUndefined n g noRefusal → f .word ≤ 3
+  undefined-near f e =
+      rw e (near-case (undefined (g .header) (maskAt n 0)) (undefined (g .second) (maskAt n 1)) (undefined (g .third) (maskAt n 2)) (undefined (g .fourth) (maskAt n 3))
+      _ _ _ _ noRefusal (omega arith) (omega arith) (omega arith) (omega arith) (omega arith))
+
 
 pub any-is : (f : Faults) → ((f .first || f .second) || (f .third || f .fourth)) || not (eqb (f .clash) 0) ≡ found (firstOf f)
 any-is f = found-first (f .first) (f .second) (f .third) (f .fourth) _ _ _ _ (refusal (f .clash) 0) refl refl refl refl
@@ -105,20 +135,23 @@ single-fault id h k f =
 
 -- the first fault, and what stands behind the faults
 pub first-fault : (m : ℕ) (fs : List Fault) (d : Decoded) → OfFaults (Proper m) fs
-    → firstFault fs d ≡ cond (eqb (firstRefusal fs .number) 0) d (bad (firstRefusal fs))
+    → firstFault bad fs d ≡ cond (found (firstRefusal fs)) (bad (firstRefusal fs)) d
 first-fault m [] d p = refl
 first-fault m (f ∷ fs) d p =
-    (elim (f .found) as (λ t. f .found ≡ t → cond t (bad (f .why)) (firstFault fs d)
-    ≡ cond (eqb ((cond t (f .why) (firstRefusal fs)) .number) 0) d (bad (cond t (f .why) (firstRefusal fs)))) [
-      | true ↦ λ e. ap (λ (b : Bool). cond b d (bad (f .why))) (sym (ne-eqb (f .why .number) 0 (not-zero (p .0 e))))
+    (elim (f .found) as (λ t. f .found ≡ t → cond t (bad (f .why)) (firstFault bad fs d)
+    ≡ cond (found (cond t (f .why) (firstRefusal fs))) (bad (cond t (f .why) (firstRefusal fs))) d) [
+      | true ↦ λ e. ap (λ (b : Bool). cond (not b) (bad (f .why)) d) (sym (ne-eqb (f .why .number) 0 (not-zero (p .0 e))))
       | false ↦ λ e. first-fault m fs d (p .1)
     ]) refl
 
--- it stands near the command's first word
-pub first-near : (m : ℕ) (fs : List Fault) → OfFaults (Proper m) fs → firstRefusal fs .word ≤ m
+-- a rule on values is broken near the command's first word
+first-near : (m : ℕ) (fs : List Fault) → OfFaults (Proper m) fs → firstRefusal fs .word ≤ m
 first-near m [] p = omega arith
 first-near m (f ∷ fs) p =
     (elim (f .found) as (λ t. f .found ≡ t → cond t (f .why) (firstRefusal fs) .word ≤ m) [
       | true ↦ λ e. p .0 e .near
       | false ↦ λ e. first-near m fs (p .1)
     ]) refl
+
+pub value-near : (id : ℕ) (g : Group) (f : Refusal) → f ≡ valueFault id g → f .word ≤ 3
+value-near id g f e = rw e (first-near 3 (valueFaults id (g .header) (more g)) (values-proper id (g .header) (more g)))

@@ -1,4 +1,5 @@
-// The first fault of a command: an undefined bit in one of its own words, else what the rules on values (crates/values) find.
+// The first fault of a command: an undefined bit in one of its own words, else the first of the rules on values (crates/values) that
+// it breaks.
 use masks::Masks;
 use rules::NO_BIT;
 use rules::Refusal;
@@ -6,14 +7,23 @@ use table::Group;
 use values::Faults;
 ghost use mathlib.Core.Path.{_≡_};
 ghost use mathlib.Core.Bool.{cond};
-ghost use mathlib.Core.List.{[], _∷_};
 ghost use Prim.Native.Nat.{_<_};
-ghost use Rattle.rules.specs.Values.{refusal, valueFaults, faults};
-ghost use Rattle.table.specs.Tables.{rowCount, rowNumber, rowAt, maskTable, more};
-ghost use Rattle.values.specs.First.{firstRefusal, found, noRefusal, firstOf};
-ghost use Rattle.faults.specs.Faults.{unlessDefined, firstUndefined, own, anyUndefined};
+ghost use Rattle.rules.specs.Values.{refusal};
+ghost use Rattle.table.specs.Tables.{rowCount, maskTable, group};
+ghost use Rattle.values.specs.First.{found, noRefusal, firstOf};
+ghost use Rattle.faults.specs.Faults.{unlessDefined, firstUndefined, anyUndefined, valueFault};
 
 // ---- undefined bits
+
+fn no_fault() -> Refusal
+    ensures { λ r. ⌜ r ≡ noRefusal ⌝ }
+{
+    Refusal {
+        number: 0,
+        word: 0,
+        bit: NO_BIT,
+    }
+}
 
 // Refusal 6 of a word with an undefined bit, else the next refusal.
 fn unless_defined(at: usize, word: u32, mask: u32, next: Refusal) -> Refusal
@@ -29,7 +39,7 @@ fn unless_defined(at: usize, word: u32, mask: u32, next: Refusal) -> Refusal
     next
 }
 
-// A word of a group has an undefined bit: with `bad_values` all that an accepted command is asked.
+// A word of a group has an undefined bit.
 pub fn undefined_bits(masks: &Masks, row: u8, g: Group) -> bool
     requires { ⌜ (now masks ≡ maskTable) × (row < rowCount) ⌝ }
     ensures { λ r. ⌜ r ≡ anyUndefined row g ⌝ }
@@ -41,6 +51,19 @@ pub fn undefined_bits(masks: &Masks, row: u8, g: Group) -> bool
     (a | b) | (c | d)
 }
 
+// Refusal 6 of the first word of a group that has an undefined bit. Only a refusal asks for it: it makes its own table of masks.
+pub fn undefined_fault(row: u8, header: u32, second: u32, third: u32, fourth: u32) -> Refusal
+    requires { ⌜ row < rowCount ⌝ }
+    ensures { λ r. ⌜ r ≡ firstUndefined row (group header second third fourth) noRefusal ⌝ }
+{
+    let masks = masks::mask_table();
+    let f = no_fault();
+    let f = unless_defined(3, fourth, masks::mask(&masks, row, 3), f);
+    let f = unless_defined(2, third, masks::mask(&masks, row, 2), f);
+    let f = unless_defined(1, second, masks::mask(&masks, row, 1), f);
+    unless_defined(0, header, masks::mask(&masks, row, 0), f)
+}
+
 // ---- illegal values and clashes
 
 fn any(f: Faults) -> bool
@@ -49,10 +72,24 @@ fn any(f: Faults) -> bool
     ((f.first | f.second) | (f.third | f.fourth)) | (f.clash != 0)
 }
 
-// A value is illegal or clashes; which one is asked only on refusal. The words come one by one: so it is inlined in both
-// of its callers, the decoding of lists and of pairs.
-pub fn bad_values(id: u8, header: u32, second: u32, third: u32, fourth: u32) -> bool
-    ensures { λ r. ⌜ r ≡ found (firstRefusal (valueFaults id header (second ∷ third ∷ fourth ∷ []))) ⌝ }
+// A load breaks a rule on values; which one, here and below, is asked only on refusal.
+pub fn bad_load(g: Group) -> bool
+    ensures { λ r. ⌜ r ≡ found (valueFault 0x40 g) ⌝ }
+{
+    any(values::load_faults(g))
+}
+
+pub fn bad_primitive(g: Group) -> bool
+    ensures { λ r. ⌜ r ≡ found (valueFault 0x48 g) ⌝ }
+{
+    any(values::primitive_faults(g))
+}
+
+// Of the other commands window clip and raster mode have rules. The words come one by one: so it is inlined in both of its
+// callers, the decoding of lists and of pairs.
+pub fn bad_other(id: u8, header: u32, second: u32, third: u32, fourth: u32) -> bool
+    requires { ⌜ (id ≡ 0x40 → ⊥) × (id ≡ 0x48 → ⊥) ⌝ }
+    ensures { λ r. ⌜ r ≡ found (valueFault id (group header second third fourth)) ⌝ }
 {
     let g = Group {
         header,
@@ -61,8 +98,6 @@ pub fn bad_values(id: u8, header: u32, second: u32, third: u32, fourth: u32) -> 
         fourth,
     };
     match id {
-        0x40 => any(values::load_faults(g)),
-        0x48 => any(values::primitive_faults(g)),
         0x84 => any(values::clip_faults(g)),
         0x88 => any(values::raster_faults(g)),
         _ => false,
@@ -98,46 +133,9 @@ fn first(f: Faults) -> Refusal
     unless_legal(0, f.first, second)
 }
 
-fn no_fault() -> Refusal
-    ensures { λ r. ⌜ r ≡ noRefusal ⌝ }
-{
-    Refusal {
-        number: 0,
-        word: 0,
-        bit: NO_BIT,
-    }
-}
-
 // Refusals 7 and 15 to 19.
-fn value_fault(id: u8, g: Group) -> Refusal
-    ensures { λ r. ⌜ r ≡ firstRefusal (valueFaults id (g .header) (more g)) ⌝ }
-{
-    match id {
-        0x40 => first(values::load_faults(g)),
-        0x48 => first(values::primitive_faults(g)),
-        0x84 => first(values::clip_faults(g)),
-        0x88 => first(values::raster_faults(g)),
-        _ => no_fault(),
-    }
-}
-
-// ---- all of them
-
-// Refusal 6 of the first word of a group that has an undefined bit, else the next refusal.
-fn first_undefined(masks: &Masks, row: u8, g: Group, next: Refusal) -> Refusal
-    requires { ⌜ (now masks ≡ maskTable) × (row < rowCount) ⌝ }
-    ensures { λ r. ⌜ r ≡ firstUndefined row g next ⌝ }
-{
-    let f = unless_defined(3, g.fourth, masks::mask(masks, row, 3), next);
-    let f = unless_defined(2, g.third, masks::mask(masks, row, 2), f);
-    let f = unless_defined(1, g.second, masks::mask(masks, row, 1), f);
-    unless_defined(0, g.header, masks::mask(masks, row, 0), f)
-}
-
-// Refusals 6, 7 and 15 to 19 of a command of four words. Only a refusal asks for them: it makes its own table of masks.
-pub fn first_fault(row: u8, id: u8, header: u32, second: u32, third: u32, fourth: u32) -> Refusal
-    requires { ⌜ (row ≡ rowNumber id) × (row < rowCount) ⌝ }
-    ensures { λ r. ⌜ r ≡ firstRefusal (faults (rowAt id) header (own (rowAt id) (record { header = header; second = second; third = third; fourth = fourth }))) ⌝ }
+pub fn value_fault(id: u8, header: u32, second: u32, third: u32, fourth: u32) -> Refusal
+    ensures { λ r. ⌜ r ≡ valueFault id (group header second third fourth) ⌝ }
 {
     let g = Group {
         header,
@@ -145,6 +143,11 @@ pub fn first_fault(row: u8, id: u8, header: u32, second: u32, third: u32, fourth
         third,
         fourth,
     };
-    let masks = masks::mask_table();
-    first_undefined(&masks, row, g, value_fault(id, g))
+    match id {
+        0x40 => first(values::load_faults(g)),
+        0x48 => first(values::primitive_faults(g)),
+        0x84 => first(values::clip_faults(g)),
+        0x88 => first(values::raster_faults(g)),
+        _ => no_fault(),
+    }
 }

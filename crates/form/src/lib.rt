@@ -3,15 +3,16 @@ use draft::Draft;
 use list::Walked;
 use rules::Answer;
 ghost use mathlib.Core.Path.{_≡_};
+ghost use Rattle.rules.specs.Lent.{given, left};
 ghost use lib.ListN.{length};
 ghost use lib.Seq.{sets};
-ghost use Rattle.rules.specs.Walk.{parse, accepted};
-ghost use Rattle.rules.specs.Answer.{normalising, measuring, normalForm, commandsOf};
+ghost use Rattle.rules.specs.Answer.{outcome, normalising, measuring, normalForm, IsAccepted};
 
 // The form of an accepted list, written as far as the buffer goes, and its length.
 fn form(list: &[u32], image: &[u32], out: &mut [u32]) -> usize
-    requires { ⌜ parse (now image) (now list) ≡ accepted (commandsOf (parse (now image) (now list))) ⌝ }
-    ensures { λ r. ⌜ (r ≡ length (normalForm (now (image .entry)) (now (list .entry)))) × (now (out .exit) ≡ sets (now (out .entry)) 0 (normalForm (now (image .entry)) (now (list .entry)))) ⌝ }
+    requires { ⌜ IsAccepted (now image) (now list) ⌝ }
+    ensures { λ r. ⌜ r ≡ length (normalForm (given image) (given list)) ⌝ }
+    ensures { λ _. ⌜ left out ≡ sets (given out) 0 (normalForm (given image) (given list)) ⌝ }
 {
     let mut latest = [0u16; 64];
     let mut sent = [0u16; 64];
@@ -28,7 +29,7 @@ fn form(list: &[u32], image: &[u32], out: &mut [u32]) -> usize
 
 // The measurer: from a list and a starting image to the normal form's length. The form is written to no buffer.
 pub fn measure(list: &[u32], image: &[u32]) -> Answer
-    ensures { λ r. ⌜ r ≡ measuring (now (list .entry)) (now (image .entry)) ⌝ }
+    ensures { λ r. ⌜ r ≡ measuring (given list) (given image) ⌝ }
 {
     let w = list::check(list, image);
     match w {
@@ -41,10 +42,10 @@ pub fn measure(list: &[u32], image: &[u32]) -> Answer
     }
 }
 
-// The normaliser: from a list, a starting image and an output buffer to the normal form. A form never has more words than
+// The normaliser: from a list, a starting image and an put buffer to the normal form. A form never has more words than
 // its list: it is measured first only where the buffer is shorter than the list.
 pub fn normalise(list: &[u32], image: &[u32], out: &mut [u32]) -> Answer
-    ensures { λ r. ⌜ record { answer = r; image = now (image .entry); buffer = now (out .exit) } ≡ normalising (now (list .entry)) (now (image .entry)) (now (out .entry)) ⌝ }
+    ensures { λ r. ⌜ outcome r (given image) (left out) ≡ normalising (given list) (given image) (given out) ⌝ }
 {
     let w = list::check(list, image);
     match w {

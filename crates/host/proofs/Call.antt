@@ -31,7 +31,7 @@ use Rattle.theory.proofs.Demands.{told-is-enough, told-never-longer}
 use Rattle.theory.proofs.Modes.{by-mode}
 use Rattle.theory.proofs.Book.{words-few}
 use Rattle.answer.specs.FitsWords.{FitsWords}
-use Rattle.host.specs.Call.{callResult, answerResult, sessionResult, placeResult, bookResult}
+use Rattle.host.specs.Call.{resultOf, answerResult, sessionResult, placeResult, bookResult}
 
 refused-fits : (f : Refusal) → f .word ≤ 16384 → FitsWords (refusedAnswer f)
 refused-fits f h = record { position = omega arith; commands = omega arith; records = omega arith; words = omega arith }
@@ -111,8 +111,8 @@ pub book-fits : (table ws buffer : List ℕ) {o : BookOutcome} → o ≡ writing
 book-fits table ws buffer e = rw e (omega (arith, words-few table ws buffer))
 
 pub call-result : {o p : Outcome} {after : List ℕ} (answer : List ℕ) → o ≡ p → after ≡ sets answer 0 (answerWords (o .answer))
-    → record { verdict = o .answer .verdict; image = o .image; buffer = o .buffer; answer = after } ≡ callResult p answer
-call-result answer e t = rw t (ap (λ (x : Outcome). callResult x answer) e)
+    → record { verdict = o .answer .verdict; image = o .image; buffer = o .buffer; answer = after } ≡ resultOf p answer
+call-result answer e t = rw t (ap (λ (x : Outcome). resultOf x answer) e)
 
 pub answer-result : {a b : Answer} {after : List ℕ} (answer : List ℕ) → a ≡ b → after ≡ sets answer 0 (answerWords a)
     → record { verdict = a .verdict; answer = after } ≡ answerResult b answer

@@ -1,11 +1,11 @@
 // The functions that C and Rust call (xp10.h).
 ghost use mathlib.Core.Path.{_≡_};
+ghost use Rattle.rules.specs.Lent.{given, left};
 ghost use Rattle.rules.specs.Answer.{measuring};
 ghost use Rattle.rules.specs.Pci.{toPci, fromPci};
-ghost use Rattle.rules.specs.Session.{readingScenes};
 ghost use Rattle.rules.specs.Swap.{readingIn, normalisingIn};
 ghost use Rattle.rules.specs.Book.{findingScene, writingBook};
-ghost use Rattle.host.specs.Call.{callResult, answerResult, sessionResult, placeResult, bookResult};
+ghost use Rattle.host.specs.Call.{written, answered, call, resultOf, answerResult, scenesRead, placeResult, bookResult};
 
 // The reader in a mode.
 #[no_mangle]
@@ -16,7 +16,7 @@ pub extern "C" fn xp10_read(
     answer: &mut [u32],
     mode: u32,
 ) -> u32
-    ensures { λ r. ⌜ record { verdict = r; image = now (image .exit); buffer = now (records .exit); answer = now (answer .exit) } ≡ callResult (readingIn (now (list .entry)) (now (image .entry)) (now (records .entry)) mode) (now (answer .entry)) ⌝ }
+    ensures { λ r. ⌜ call r (left image) (left records) (left answer) ≡ resultOf (readingIn (given list) (given image) (given records) mode) (given answer) ⌝ }
 {
     let a = swap::read(list, image, records, mode);
     answer::write(a, answer);
@@ -32,7 +32,7 @@ pub extern "C" fn xp10_read_scenes(
     records: &mut [u32],
     answer: &mut [u32],
 ) -> u32
-    ensures { λ r. ⌜ record { verdict = r; image = now (image .exit); buffer = now (records .exit); answer = now (answer .exit) } ≡ sessionResult (readingScenes (now (words .entry)) (now (table .entry)) (now (image .entry)) (now (records .entry))) (now (answer .entry)) ⌝ }
+    ensures { λ r. ⌜ call r (left image) (left records) (left answer) ≡ scenesRead (given words) (given table) (given image) (given records) (given answer) ⌝ }
 {
     let s = session::read_scenes(words, table, image, records);
     answer::write_session(s, answer);
@@ -48,7 +48,7 @@ pub extern "C" fn xp10_normalise(
     answer: &mut [u32],
     mode: u32,
 ) -> u32
-    ensures { λ r. ⌜ record { verdict = r; image = now (image .entry); buffer = now (out .exit); answer = now (answer .exit) } ≡ callResult (normalisingIn (now (list .entry)) (now (image .entry)) (now (out .entry)) mode) (now (answer .entry)) ⌝ }
+    ensures { λ r. ⌜ call r (given image) (left out) (left answer) ≡ resultOf (normalisingIn (given list) (given image) (given out) mode) (given answer) ⌝ }
 {
     let a = swap::normalise(list, image, out, mode);
     answer::write(a, answer);
@@ -58,7 +58,7 @@ pub extern "C" fn xp10_normalise(
 // The room that the normal form takes.
 #[no_mangle]
 pub extern "C" fn xp10_measure(list: &[u32], image: &[u32], answer: &mut [u32]) -> u32
-    ensures { λ r. ⌜ record { verdict = r; answer = now (answer .exit) } ≡ answerResult (measuring (now (list .entry)) (now (image .entry))) (now (answer .entry)) ⌝ }
+    ensures { λ r. ⌜ answered r (left answer) ≡ answerResult (measuring (given list) (given image)) (given answer) ⌝ }
 {
     let a = form::measure(list, image);
     answer::write(a, answer);
@@ -73,7 +73,7 @@ pub extern "C" fn xp10_to_pci(
     pairs: &mut [u32],
     answer: &mut [u32],
 ) -> u32
-    ensures { λ r. ⌜ record { verdict = r; image = now (image .entry); buffer = now (pairs .exit); answer = now (answer .exit) } ≡ callResult (toPci (now (list .entry)) (now (image .entry)) (now (pairs .entry))) (now (answer .entry)) ⌝ }
+    ensures { λ r. ⌜ call r (given image) (left pairs) (left answer) ≡ resultOf (toPci (given list) (given image) (given pairs)) (given answer) ⌝ }
 {
     let a = pci_writer::to_pci(list, image, pairs);
     answer::write(a, answer);
@@ -88,7 +88,7 @@ pub extern "C" fn xp10_from_pci(
     list: &mut [u32],
     answer: &mut [u32],
 ) -> u32
-    ensures { λ r. ⌜ record { verdict = r; image = now (image .entry); buffer = now (list .exit); answer = now (answer .exit) } ≡ callResult (fromPci (now (pairs .entry)) (now (image .entry)) (now (list .entry))) (now (answer .entry)) ⌝ }
+    ensures { λ r. ⌜ call r (given image) (left list) (left answer) ≡ resultOf (fromPci (given pairs) (given image) (given list)) (given answer) ⌝ }
 {
     let a = pci_reader::from_pci(pairs, image, list);
     answer::write(a, answer);
@@ -98,7 +98,7 @@ pub extern "C" fn xp10_from_pci(
 // Where a scene of a book is.
 #[no_mangle]
 pub extern "C" fn xp10_find_scene(book: &[u32], number: u32, place: &mut [u32]) -> u32
-    ensures { λ r. ⌜ record { verdict = r; answer = now (place .exit) } ≡ placeResult (findingScene (now (book .entry)) number) (now (place .entry)) ⌝ }
+    ensures { λ r. ⌜ answered r (left place) ≡ placeResult (findingScene (given book) number) (given place) ⌝ }
 {
     let a = book::find(book, number);
     answer::write_place(a, place);
@@ -113,7 +113,7 @@ pub extern "C" fn xp10_write_book(
     book: &mut [u32],
     answer: &mut [u32],
 ) -> u32
-    ensures { λ r. ⌜ record { verdict = r; book = now (book .exit); answer = now (answer .exit) } ≡ bookResult (writingBook (now (table .entry)) (now (words .entry)) (now (book .entry))) (now (answer .entry)) ⌝ }
+    ensures { λ r. ⌜ written r (left book) (left answer) ≡ bookResult (writingBook (given table) (given words) (given book)) (given answer) ⌝ }
 {
     let a = book::write_book(table, words, book);
     answer::write_book_answer(a, answer);

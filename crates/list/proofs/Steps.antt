@@ -2,20 +2,20 @@
 use Prim.Native.Nat.{ℕ, suc, _+_, _^_, _≤_, _<_}
 use native.Mathlib.Nat.{add-zero, zero-add}
 use native.Mathlib.Omega.{arith}
-use mathlib.Core.Path.{_≡_, refl, ap, ap₂, sym, _∙_}
-use mathlib.Core.Bool.{Bool, true, false, cond, not, _&&_}
+use mathlib.Core.Path.{_≡_, refl, ap, ap₂, sym, _∙_, subst}
+use mathlib.Core.Bool.{Bool, true, false, cond}
 use mathlib.Core.List.{List, [], _∷_}
-use mathlib.Core.Option.{some, none}
 use lib.ListN.{length, getD, drop, length-drop}
 use Rattle.rules.specs.declared.Refusal.{Refusal}
-use Rattle.rules.specs.Table.{isSetting, isBegin}
+use Rattle.rules.specs.Table.{isSetting}
 use Rattle.rules.specs.Command.{Command}
-use Rattle.rules.specs.Values.{refusal}
+use Rattle.rules.specs.Values.{Fault, firstFault}
 use Rattle.rules.specs.Decode.{Decoded, bad, good, decode}
-use Rattle.rules.specs.Walk.{State, start, outOfOrder, orderAfter, next, Step, stop, took, inOrder, stepDecoded, step, Parsed, refused, accepted, andThen, onward, walk}
+use Rattle.rules.specs.Walk.{State, start, orderFaults, orderAfter, next, Step, stop, took, stepDecoded, step, Parsed, refused, accepted, andThen, onward, walk}
 use Rattle.rules.specs.Records.{records}
 use Rattle.theory.proofs.Parse.{decode-read, step-took}
 use Rattle.theory.proofs.Walk.{walk-at, walk-end}
+use Rattle.command.specs.declared.Command.{Command as Kept}
 use Rattle.command.specs.declared.Decoded.{Decoded as Decoded′}
 use Rattle.command.specs.declared.Decoded.the-variants as decoded
 use Rattle.command.specs.View.{kept, decodedAt}
@@ -24,15 +24,35 @@ use Rattle.list.specs.declared.Cursor.{Cursor}
 use Rattle.list.specs.declared.Step.the-variants.{On, Refused}
 use Rattle.list.specs.declared.Walked.{Walked}
 use Rattle.list.specs.declared.Walked.the-variants as walked
-use Rattle.list.specs.View.{origin, Counted, InsideAfter, ordered, advanced, taken, stateOf, view, stepAt, walkedOf}
+use Rattle.list.specs.View.{origin, Counted, InsideAfter, after, keptFaults, refuseAt, ordered, advanced, taken, StandsFor, behind, view, stepAt, Steps, walkedOf, Walks}
 
 -- ---- one step
 
 -- a command in order is the one given
+inside-first : (c : Cursor) (k : Kept) → InsideAfter c (decoded.Command k) → (fs : List Fault) → InsideAfter c (firstFault (refuseAt c) fs (decoded.Command k))
+inside-first c k h [] = h
+inside-first c k h (f ∷ fs) =
+    elim (f .found) as (λ b. InsideAfter c (cond b (refuseAt c (f .why)) (firstFault (refuseAt c) fs (decoded.Command k)))) [
+      | true ↦ tt
+      | false ↦ inside-first c k h fs
+    ]
+
 pub inside-ordered : (c : Cursor) (d : Decoded′) → InsideAfter c d → InsideAfter c (ordered c d)
 inside-ordered c (decoded.Refused f) h = tt
-inside-ordered c (decoded.Command k) h =
-    elim (c .flip && not (k .begin)) as (λ b. InsideAfter c (cond b (decoded.Refused (refusal 10 (c .at))) (decoded.Command k))) [ true ↦ tt | false ↦ h ]
+inside-ordered c (decoded.Command k) h = inside-first c k h (keptFaults c k)
+
+-- what a cursor stands for: the rules on order find the same of a command, and the cursor after it stands for the state there
+module _ (c : Cursor) (s : State) (a : StandsFor c s) (d : Command) where
+  faults-are : keptFaults c (kept d) ≡ orderFaults s d
+  unfolding orderFaults
+  faults-are = rw (a .flip)
+
+  after-is : after c (kept d) ≡ behind c d (next s d)
+  unfolding orderAfter
+  after-is = refl
+
+  stands-behind : (t : State) → StandsFor (behind c d t) t
+  stands-behind t = record { flip = refl }
 
 module _ (l : List ℕ) (c : Cursor) where
   abbrev w : ℕ
@@ -41,20 +61,26 @@ module _ (l : List ℕ) (c : Cursor) where
   abbrev ws : List ℕ
   ws = drop (suc (c .at)) l
 
-  by-decoded : (image : List ℕ) (x : Decoded) → taken c (viewDecoded (c .at) x) ≡ view c (stepDecoded (stateOf image c) x)
-  unfolding outOfOrder orderAfter
-  by-decoded image (bad f) = refl
-  by-decoded image (good d) =
-      elim (c .flip && not (isBegin (d .row .kind))) as (λ b. advanced c (cond b (decoded.Refused (refusal 10 (c .at))) (decoded.Command (kept d)))
-      ≡ view c (inOrder (cond b (some 10) none) d (next (stateOf image c) d))) [
-        | true ↦ ap (λ (n : ℕ). Refused (refusal 10 n)) (sym (add-zero (c .at)))
-        | false ↦ refl
+  by-faults : (fs : List Fault) (k : Kept) (x : Step) → On (after c k) ≡ view c x
+      → advanced c (firstFault (refuseAt c) fs (decoded.Command k)) ≡ view c (firstFault stop fs x)
+  by-faults [] k x e = e
+  by-faults (f ∷ fs) k x e =
+      elim (f .found) as (λ b. advanced c (cond b (refuseAt c (f .why)) (firstFault (refuseAt c) fs (decoded.Command k)))
+      ≡ view c (cond b (stop (f .why)) (firstFault stop fs x))) [
+        | true ↦ refl
+        | false ↦ by-faults fs k x e
       ]
 
+  by-decoded : (s : State) → StandsFor c s → (x : Decoded) → taken c (viewDecoded (c .at) x) ≡ view c (stepDecoded s x)
+  by-decoded s a (bad f) = refl
+  by-decoded s a (good d) =
+      by-faults (keptFaults c (kept d)) (kept d) (took d (next s d)) (ap On (after-is c s a d))
+      ∙ ap (λ (fs : List Fault). view c (firstFault stop fs (took d (next s d)))) (faults-are c s a d)
+
   -- a step takes the decoded command
-  pub step-taken : (d : Decoded′) → d ≡ decodedAt l (c .at) → (image : List ℕ) → taken c d ≡ stepAt l image c
+  pub step-taken : (d : Decoded′) → d ≡ decodedAt l (c .at) → Steps l c (taken c d)
   unfolding stepAt step decodedAt
-  step-taken d e image = ap (taken c) e ∙ by-decoded image (decode w ws)
+  step-taken d e = λ s a. ap (taken c) e ∙ by-decoded s a (decode w ws)
 
   inside-decoded : (x : Decoded) → decode w ws ≡ x → length l < 2 ^ 62 → c .at < length l → InsideAfter c (viewDecoded (c .at) x)
   inside-decoded (bad f) e long inside = tt
@@ -96,38 +122,45 @@ resume-then c e d (refused f) ec er = refl
 resume-then c e d (accepted cs) ec er =
     ap₂ {C = Walked} (λ a b. walked.Accepted a b) (omega arith) (omega (arith, record-count 0 d cs))
 
--- the image after a step
-abbrev imageOf : Step → List ℕ
-imageOf (stop f) = []
-imageOf (took d t) = t .image
-
--- the rest of the walk from the cursor on, from the image met there, is the whole walk
-pub record Walking (l : List ℕ) (c : Cursor) : Type 0 where
-  pub counted : Counted c
-  pub inside : c .at ≤ length l
-  pub met : List ℕ → List ℕ
-  pub same : (image : List ℕ) → walkedOf (walk (start image) 0 0 l) ≡ resume c (walk (stateOf (met image) c) (c .at) 0 (drop (c .at) l))
-
 resume-origin : (x : Parsed) → walkedOf x ≡ resume origin x
 resume-origin (refused f) = refl
 resume-origin (accepted cs) = ap₂ {C = Walked} (λ a b. walked.Accepted a b) (sym (zero-add (length cs))) (sym (zero-add (length (records 0 cs))))
 
+-- the walk from a state, as far as a cursor: it gives what the rest gives from the state met there
+record From (s : State) (l : List ℕ) (c : Cursor) : Type 0 where
+  counted : Counted c
+  inside : c .at ≤ length l
+  met : State
+  stands : StandsFor c met
+  same : walkedOf (walk s 0 0 l) ≡ resume c (walk met (c .at) 0 (drop (c .at) l))
+
+-- the same from every state that the first cursor stands for
+pub Walking : List ℕ → Cursor → Type 0
+Walking l c = (s : State) → StandsFor origin s → From s l c
+
 pub walking-start : (l : List ℕ) → Walking l origin
-walking-start l = record {
+unfolding Walking
+walking-start l s a = record {
   counted = record { work = omega arith; some = omega arith };
   inside = omega arith;
-  met = λ image. image;
-  same = λ image. resume-origin (walk (start image) 0 0 l);
+  met = s;
+  stands = a;
+  same = resume-origin (walk s 0 0 l);
 }
+
+-- before the first command the cursor stands for the start from any image
+pub at-start : (image : List ℕ) → StandsFor origin (start image)
+at-start image = record { flip = refl }
+
+pub walking-counted : (l : List ℕ) (c : Cursor) → Walking l c → Counted c
+unfolding Walking
+walking-counted l c g = g (start []) (at-start []) .counted
 
 pub at-most-one : (b : Bool) → cond b 0 1 ≤ 1
 at-most-one true = omega arith
 at-most-one false = omega arith
 
 module _ (l : List ℕ) (c : Cursor) (h : c .at < length l) where
-  abbrev stepFrom : List ℕ → Step
-  stepFrom image = step (stateOf image c) (getD l (c .at) 0) (drop (suc (c .at)) l)
-
   turn : Step → Parsed
   turn x = onward (c .at) (λ t k. walk t (suc (c .at) + k) 0 (drop (suc (c .at) + k) l)) x
 
@@ -136,54 +169,55 @@ module _ (l : List ℕ) (c : Cursor) (h : c .at < length l) where
   by-stop (stop g) f e = cc
   by-stop (took d t) f e = let z : _≡_ {A = ℕ} 0 1 = cc in absurd (omega arith)
 
-  pub walking-stop : (f : Refusal) (g : Walking l c) → ((image : List ℕ) → Refused f ≡ stepAt l image c) → (image : List ℕ) → walkedOf (walk (start image) 0 0 l) ≡ walked.Refused f
-  unfolding stepAt turn
-  walking-stop f g e image =
-      g .same image ∙ ap (resume c) (walk-at (stateOf (g .met image) c) (c .at) l h) ∙ by-stop (stepFrom (g .met image)) f (sym (e (g .met image)))
+  module _ (s : State) (g : From s l c) where
+    abbrev stepped : Step
+    stepped = step (g .met) (getD l (c .at) 0) (drop (suc (c .at)) l)
 
-  -- one command on
-  record Advance (e : Cursor) (image met : List ℕ) : Type 0 where
-    forward : c .at < e .at
-    counted : Counted c → Counted e
-    inside : e .at ≤ length l
-    same : resume c (walk (stateOf image c) (c .at) 0 (drop (c .at) l)) ≡ resume e (walk (stateOf met e) (e .at) 0 (drop (e .at) l))
+    from-stop : (f : Refusal) → Steps l c (Refused f) → walkedOf (walk s 0 0 l) ≡ walked.Refused f
+    unfolding stepAt turn
+    from-stop f q = g .same ∙ ap (resume c) (walk-at (g .met) (c .at) l h) ∙ by-stop stepped f (sym (q (g .met) (g .stands)))
 
-  by-on : (image : List ℕ) (x : Step) → stepFrom image ≡ x → (e : Cursor) → On e ≡ view c x → Advance e image (imageOf x)
-  unfolding turn
-  by-on image (stop f) ex e q = let z : _≡_ {A = ℕ} 0 1 = cc in absurd (omega arith)
-  by-on image (took d t) ex e q =
-      let is : record { at = c .at + suc (length (d .rest)); commands = c .commands + 1; records = c .records + cond (isSetting (d .row .kind)) 0 1; flip = t .order .flip } ≡ e = cc in
-      let k = step-took (stateOf image c) (getD l (c .at) 0) (drop (suc (c .at)) l) d t ex in
-      let b = at-most-one (isSetting (d .row .kind)) in
-      let ea : e .at ≡ c .at + suc (length (d .rest)) = ap (λ (y : Cursor). y .at) (sym is) in
-      let ec : e .commands ≡ c .commands + 1 = ap (λ (y : Cursor). y .commands) (sym is) in
-      let er : e .records ≡ c .records + cond (isSetting (d .row .kind)) 0 1 = ap (λ (y : Cursor). y .records) (sym is) in
-      let n : ℕ = suc (c .at) + length (d .rest) in
-      let en : n ≡ e .at = omega arith in
-      let es : t ≡ stateOf (t .image) e = ap (λ (b : Bool). record { order = record { flip = b }; image = t .image }) (ap (λ (y : Cursor). y .flip) is) in
-      record {
-        forward = omega arith;
-        counted = λ g. record { work = omega (arith, g .work); some = omega (arith, g .some) };
-        inside = omega (arith, k .read .enough, length-drop (suc (c .at)) l);
-        same = ap (resume c) (walk-at (stateOf image c) (c .at) l h ∙ ap turn ex)
-            ∙ resume-then c e d (walk t n 0 (drop n l)) ec er
-            ∙ ap (resume e) (ap (λ (u : State). walk u n 0 (drop n l)) es ∙ ap (λ (m : ℕ). walk (stateOf (t .image) e) m 0 (drop m l)) en);
-      }
+    -- one command on
+    from-behind : (d : Command) (t : State) → stepped ≡ took d t → (c .at < behind c d t .at) × From s l (behind c d t)
+    unfolding turn
+    from-behind d t ex =
+        let e : Cursor = behind c d t in
+        let k = step-took (g .met) (getD l (c .at) 0) (drop (suc (c .at)) l) d t ex in
+        let b = at-most-one (isSetting (d .row .kind)) in
+        let n : ℕ = suc (c .at) + length (d .rest) in
+        let en : n ≡ e .at = omega arith in (
+          omega arith,
+          record {
+            counted = record { work = omega (arith, g .counted .work); some = omega (arith, g .counted .some) };
+            inside = omega (arith, k .read .enough, length-drop (suc (c .at)) l);
+            met = t;
+            stands = stands-behind c (g .met) (g .stands) d t;
+            same = g .same ∙ ap (resume c) (walk-at (g .met) (c .at) l h ∙ ap turn ex)
+                ∙ resume-then c e d (walk t n 0 (drop n l)) refl refl
+                ∙ ap (λ (m : ℕ). resume e (walk t m 0 (drop m l))) en;
+          },
+        )
 
-  advance : (e : Cursor) → ((image : List ℕ) → On e ≡ stepAt l image c) → (image : List ℕ) → Advance e image (imageOf (stepFrom image))
-  unfolding stepAt
-  advance e q image = by-on image (stepFrom image) refl e (q image)
+    by-on : (x : Step) → stepped ≡ x → (e : Cursor) → On e ≡ view c x → (c .at < e .at) × From s l e
+    by-on (stop f) ex e q = let z : _≡_ {A = ℕ} 0 1 = cc in absurd (omega arith)
+    by-on (took d t) ex e q =
+        let is : behind c d t ≡ e = cc in
+        subst (λ (y : Cursor). (c .at < y .at) × From s l y) is (from-behind d t ex)
 
-  pub walking-on : (e : Cursor) → Walking l c → ((image : List ℕ) → On e ≡ stepAt l image c) → (c .at < e .at) × Walking l e
-  walking-on e g q = (
-    advance e q [] .forward,
-    record {
-      counted = advance e q [] .counted (g .counted);
-      inside = advance e q [] .inside;
-      met = λ image. imageOf (stepFrom (g .met image));
-      same = λ image. g .same image ∙ advance e q (g .met image) .same;
-    },
-  )
+    from-on : (e : Cursor) → Steps l c (On e) → (c .at < e .at) × From s l e
+    unfolding stepAt
+    from-on e q = by-on stepped refl e (q (g .met) (g .stands))
 
-pub walking-end : (l : List ℕ) (c : Cursor) → Walking l c → length l ≤ c .at → (image : List ℕ) → walkedOf (walk (start image) 0 0 l) ≡ walked.Accepted (c .commands) (c .records)
-walking-end l c g h image = g .same image ∙ ap (resume c) (walk-end (stateOf (g .met image) c) (c .at) l h) ∙ rw (add-zero (c .commands), add-zero (c .records))
+  pub walking-stop : (f : Refusal) → Walking l c → Steps l c (Refused f) → Walks (λ s. walk s 0 0 l) (walked.Refused f)
+  unfolding Walking
+  walking-stop f g q s a = sym (from-stop s (g s a) f q)
+
+  pub walking-on : (e : Cursor) → Walking l c → Steps l c (On e) → (c .at < e .at) × Walking l e
+  unfolding Walking
+  walking-on e g q = (from-on (start []) (g (start []) (at-start [])) e q .0, λ s a. from-on s (g s a) e q .1)
+
+pub walking-end : (l : List ℕ) (c : Cursor) → Walking l c → length l ≤ c .at → Walks (λ s. walk s 0 0 l) (walked.Accepted (c .commands) (c .records))
+unfolding Walking
+walking-end l c g h s a =
+    let f = g s a in
+    sym (f .same ∙ ap (resume c) (walk-end (f .met) (c .at) l h) ∙ rw (add-zero (c .commands), add-zero (c .records)))

@@ -1,12 +1,15 @@
 -- The walk along a list, as the code has it: `Rattle.rules`' walk with its commands counted.
 use Prim.Native.Nat.{ℕ, suc, _+_, _^_, _≤_, _<_}
+use mathlib.Core.Path.{_≡_}
 use mathlib.Core.Bool.{cond, false, not, _&&_}
-use mathlib.Core.List.{List}
+use mathlib.Core.List.{List, [], _∷_}
 use lib.ListN.{length, getD, drop}
+use Rattle.rules.specs.declared.Refusal.{Refusal}
 use Rattle.rules.specs.Table.{isSetting}
+use Rattle.rules.specs.Command.{Command as RulesCommand}
 use Rattle.rules.specs.Walk.{State, stop, took, step, Parsed, refused, accepted}
 use Rattle.rules.specs.Walk.{Step as RulesStep}
-use Rattle.rules.specs.Values.{refusal, shift}
+use Rattle.rules.specs.Values.{shift, Fault, fault, firstFault}
 use Rattle.rules.specs.Records.{records}
 use Rattle.command.specs.declared.Command.{Command}
 use Rattle.command.specs.declared.Decoded.{Decoded}
@@ -39,10 +42,17 @@ after c k =
       flip = k .base;
     }
 
--- a decoded command that is in order, or its refusal: 10 behind a surface base
+-- the rules on order that a command breaks, by what is kept of it
+abbrev pub keptFaults : Cursor → Command → List Fault
+keptFaults c k = fault (c .flip && not (k .begin)) 10 0 ∷ []
+
+abbrev pub refuseAt : Cursor → Refusal → Decoded
+refuseAt c f = decoded.Refused (shift (c .at) f)
+
+-- a decoded command that is in order, or its refusal
 abbrev pub ordered : Cursor → Decoded → Decoded
 ordered c (decoded.Refused f) = decoded.Refused f
-ordered c (decoded.Command k) = cond (c .flip && not (k .begin)) (decoded.Refused (refusal 10 (c .at))) (decoded.Command k)
+ordered c (decoded.Command k) = firstFault (refuseAt c) (keptFaults c k) (decoded.Command k)
 
 -- the cursor after a decoded command, or its refusal
 abbrev pub advanced : Cursor → Decoded → Step
@@ -57,25 +67,37 @@ abbrev pub InsideAfter : Cursor → Decoded → Type 0
 InsideAfter c (decoded.Refused f) = Unit {0}
 InsideAfter c (decoded.Command k) = Addressable (c .at + k .words)
 
--- the rules' state at a cursor, with the image that is met there
-abbrev pub stateOf : List ℕ → Cursor → State
-stateOf image c = record { order = record { flip = c .flip }; image = image }
+-- a state of the rules that a cursor stands for: what the cursor holds of it, and what it need not hold
+pub record StandsFor (c : Cursor) (s : State) : Type 0 where
+  pub flip : c .flip ≡ s .order .flip
 
-abbrev pub view : Cursor → RulesStep → Step
-view c (stop f) = Refused (shift (c .at) f)
-view c (took d t) =
-    On (record {
+-- the cursor behind a command, by the state there
+abbrev pub behind : Cursor → RulesCommand → State → Cursor
+behind c d t =
+    record {
       at = c .at + suc (length (d .rest));
       commands = c .commands + 1;
       records = c .records + cond (isSetting (d .row .kind)) 0 1;
       flip = t .order .flip;
-    })
+    }
 
--- one step of the rules' walk from a cursor
-unfoldable pub stepAt : List ℕ → List ℕ → Cursor → Step
-stepAt l image c = view c (step (stateOf image c) (getD l (c .at) 0) (drop (suc (c .at)) l))
+abbrev pub view : Cursor → RulesStep → Step
+view c (stop f) = Refused (shift (c .at) f)
+view c (took d t) = On (behind c d t)
+
+-- one step of the rules' walk from a state at a cursor
+unfoldable pub stepAt : List ℕ → State → Cursor → Step
+stepAt l s c = view c (step s (getD l (c .at) 0) (drop (suc (c .at)) l))
+
+-- the step from every state that the cursor stands for
+abbrev pub Steps : List ℕ → Cursor → Step → Type 0
+Steps l c r = (s : State) → StandsFor c s → r ≡ stepAt l s c
 
 -- the counts of an accepted list, or the refusal
 abbrev pub walkedOf : Parsed → Walked
 walkedOf (refused f) = walked.Refused f
 walkedOf (accepted cs) = walked.Accepted (length cs) (length (records 0 cs))
+
+-- what the walk finds, from every state that the cursor stands for before the first command
+abbrev pub Walks : (State → Parsed) → Walked → Type 0
+Walks w r = (s : State) → StandsFor origin s → r ≡ walkedOf (w s)

@@ -6,16 +6,17 @@ use rules::Answer;
 use rules::NO_BIT;
 use rules::Refusal;
 ghost use mathlib.Core.Path.{_≡_};
+ghost use Rattle.rules.specs.Lent.{given};
 ghost use mathlib.Core.Bool.{cond};
 ghost use mathlib.Core.List.{List};
 ghost use Prim.Native.Nat.{ℕ, _+_, _<_};
 ghost use lib.ListN.{length};
-ghost use Rattle.rules.specs.Walk.{walk, start, parse};
+ghost use Rattle.rules.specs.Walk.{walk, parse};
 ghost use Rattle.rules.specs.Values.{refusal};
 ghost use Rattle.rules.specs.Answer.{refusedAnswer, acceptedAnswer};
 ghost use Rattle.table.specs.Tables.{rowTable, maskTable};
 ghost use Rattle.list.specs.declared.Walked.the-variants as walked;
-ghost use Rattle.list.specs.View.{origin, after, ordered, taken, stepAt, walkedOf, Counted, Addressable, InsideAfter};
+ghost use Rattle.list.specs.View.{origin, after, ordered, taken, Steps, Walks, walkedOf, Counted, Addressable, InsideAfter};
 
 // Where the walk stands: the position and the counts after the commands passed, and whether the last was a surface base.
 pub struct Cursor {
@@ -94,17 +95,17 @@ impl Cursor {
         }
     }
 
-    // One command: refusals 3 to 10, from every image that it may meet. Each known id from 40 on has a group.
+    // One command: refusals 3 to 10, from every state that the cursor stands for.
     fn step(self, rows: &[u8; 256], masks: &Masks, list: &[u32]) -> Step
         requires { ⌜ Counted self × (self .at < length (now list)) × (now rows ≡ rowTable) × (now masks ≡ maskTable) ⌝ }
-        ensures { λ r. ⌜ ((image : List ℕ) → r ≡ stepAt (now (list .entry)) image self) ⌝ }
+        ensures { λ r. ⌜ Steps (given list) self r ⌝ }
     {
         let id = words::id_of(words::fetch(list, self.at));
         let row = rows[id as usize];
         if table::UNKNOWN <= row {
             return self.take(command::refused(command::unknown(id), self.at));
         }
-        if (0x40 <= id) | (row == table::BEGIN) {
+        if table::is_known_group(id, row) {
             return self.take(command::decode_group(masks, list, self.at, id, row));
         }
         self.take(command::decode_single(masks, list, self.at, id, row))
@@ -114,7 +115,7 @@ impl Cursor {
 // The first pass: the whole list is checked and counted, and nothing is written.
 fn walk(rows: &[u8; 256], masks: &Masks, list: &[u32]) -> Walked
     requires { ⌜ (now rows ≡ rowTable) × (now masks ≡ maskTable) ⌝ }
-    ensures { λ r. ⌜ ((image : List ℕ) → r ≡ walkedOf (walk (start image) 0 0 (now (list .entry)))) ⌝ }
+    ensures { λ r. ⌜ Walks (λ s. walk s 0 0 (given list)) r ⌝ }
 {
     let mut c = Cursor::start();
     while c.at < list.len() {
@@ -180,7 +181,7 @@ pub fn refused(number: u32, word: usize) -> Walked
 
 // The verdict on a list, before anything is written: refusals 1 to 10, or the counts.
 pub fn check(list: &[u32], image: &[u32]) -> Walked
-    ensures { λ r. ⌜ r ≡ walkedOf (parse (now (image .entry)) (now (list .entry))) ⌝ }
+    ensures { λ r. ⌜ r ≡ walkedOf (parse (given image) (given list)) ⌝ }
 {
     if 4096 < list.len() {
         return refused(1, 4096);

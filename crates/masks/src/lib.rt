@@ -24,22 +24,27 @@ const MASKS: Masks = [
     0xFFFFFFFF,
     0xFFFFFFFF,
     0xFFFFFFFF,
+    // 02 timer threshold
+    0x00FFFFFF,
+    0xFFFFFFFF,
+    0xFFFFFFFF,
+    0xFFFFFFFF,
     // 05 trigger
     0x00FFFFFF,
     0xFFFFFFFF,
     0xFFFFFFFF,
     0xFFFFFFFF,
+    // 08 0C 10 14 BEGIN
+    0x00FFFFFF,
+    0x803FFFFF,
+    0x0FFFFFFF,
+    0x00000000,
     // 20 22 24 surface control
     0x0000000F,
     0xFFFFFFFF,
     0xFFFFFFFF,
     0xFFFFFFFF,
     // 21 23 25 surface base
-    0x00FFFFFF,
-    0xFFFFFFFF,
-    0xFFFFFFFF,
-    0xFFFFFFFF,
-    // 02 timer threshold
     0x00FFFFFF,
     0xFFFFFFFF,
     0xFFFFFFFF,
@@ -54,11 +59,6 @@ const MASKS: Masks = [
     0xFFFFFFFF,
     0xFFFFFFFF,
     0xFFFFFFFF,
-    // 08 0C 10 14 BEGIN
-    0x00FFFFFF,
-    0x803FFFFF,
-    0x0FFFFFFF,
-    0x00000000,
     // 40 LOAD_GP
     0x00F7FDFF,
     0xFFFFFFFF,

@@ -18,7 +18,8 @@ use Rattle.rules.specs.Form.{read}
 use Rattle.rules.specs.Pci.{address, values, Inside, further, ended, expecting, misplaced, outside}
 use Rattle.theory.proofs.Bools.{and-left, and-right}
 use Rattle.theory.proofs.Pci.{between, expected, expecting-none}
-use Rattle.command.specs.View.{sizeAt, Sized}
+use Rattle.command.specs.View.{sizeAt}
+use Rattle.command.proofs.Sizes.{size-pos}
 use Rattle.pairs.specs.View.{addresses}
 use Rattle.placed.specs.View.{placed}
 use Rattle.misplaced.specs.View.{behind, misplacedFrom, Leading}
@@ -53,11 +54,6 @@ at-end (a ∷ v ∷ ps) o left p (suc at) h = at-end ps o left p at (omega arith
 pub none-behind : (ps : List ℕ) (at : ℕ) → length (values ps) ≤ at → misplacedFrom at ps ≡ none
 none-behind ps at h = at-end ps outside 0 at at h
 
--- a command has a word
-size-some : (h : ℕ) (ws : List ℕ) (x : Option Row) → 0 < sizeOf h ws x
-size-some h ws none = omega arith
-size-some h ws (some r) = omega arith
-
 module _ (ps : List ℕ) where
   -- the pair at a number, inside a command
   inside-at : (o : Inside) (left at : ℕ) → at < length (values ps)
@@ -70,12 +66,12 @@ module _ (ps : List ℕ) where
   here at = record { first = at; id = idOf (getD (values ps) at 0); word = 0 }
 
   pub opened : (at : ℕ) → at < length (values ps) → misplacedFrom at ps ≡ misplaced (here at) (sizeAt (values ps) at) at (behind at ps)
-  unfolding misplaced commandSize
+  unfolding misplaced
   opened at h =
       let v : ℕ = getD (values ps) at 0 in
       let n : ℕ = sizeAt (values ps) at in
       let ws : values (behind (suc at) ps) ≡ drop (suc at) (values ps) = behind-values ps (suc at) in
-      let pos : 0 < n = size-some (headerOf v) (drop (suc at) (values ps)) (rowOf (idOf v)) in
+      let pos : 0 < n = size-pos (values ps) at n refl in
       let e : suc (n - 1) ≡ n = omega (arith, pos) in
       ap (misplaced outside 0 at) (behind-pair ps at h)
       ∙ ap (λ (l : List ℕ). expecting (address (idOf v) 0) (getD (addresses ps) at 0) at (misplaced (further (here at)) (commandSize v l - 1) (suc at) (behind (suc at) ps))) ws
@@ -144,22 +140,15 @@ module _ (ps : List ℕ) where
         → (at + sizeAt (values ps) at ≤ length (values ps)) × (placed (idOf (getD (values ps) at 0)) 0 (read (addresses ps) at (sizeAt (values ps) at)) ≡ true)
     command-in-place e = in-place (here at) (sizeAt (values ps) at) at (omega arith) (sym (opened at h) ∙ e)
 
-    module _ (words r : ℕ) (s : Sized (values ps) at words) (k : Leading ps at words (idOf (getD (values ps) at 0)) r) where
+    module _ (words r : ℕ) (s : words ≡ sizeAt (values ps) at) (k : Leading ps at words (idOf (getD (values ps) at 0)) r) where
       pub leading-wrong : r < words → r < length (values ps) - at → misplacedFrom at ps ≡ some (refusal 13 (at + r))
-      leading-wrong l t =
-          let few : r < sizeAt (values ps) at = (elim (ltb (length (values ps)) (at + words)) as (λ b. ltb (length (values ps)) (at + words) ≡ b → r < sizeAt (values ps) at) [
-            | true ↦ λ b. omega (arith, s .beyond (ltb-true (length (values ps)) (at + words) b))
-            | false ↦ λ b. omega (arith, s .exact (ltb-false (length (values ps)) (at + words) b))
-          ]) refl in
-          opened at h ∙ wrong-at (here at) (sizeAt (values ps) at) at r few (omega arith) (k .right) (rw zero-add (k .wrong l (omega arith)))
+      leading-wrong l t = opened at h ∙ wrong-at (here at) (sizeAt (values ps) at) at r (omega arith) (omega arith) (k .right) (rw zero-add (k .wrong l (omega arith)))
 
       pub leading-cut : r < words → length (values ps) - at ≤ r → misplacedFrom at ps ≡ some (refusal 14 at)
-      leading-cut l t =
-          let more : length (values ps) < at + sizeAt (values ps) at = s .beyond (omega (arith, k .there)) in
-          opened at h ∙ cut-at (here at) (sizeAt (values ps) at) at r (omega (arith, k .there)) (omega (arith, k .there)) (k .right)
+      leading-cut l t = opened at h ∙ cut-at (here at) (sizeAt (values ps) at) at r (omega (arith, k .there)) (omega (arith, k .there)) (k .right)
 
       pub leading-all : words ≤ r → (at + words ≤ length (values ps)) × (misplacedFrom at ps ≡ misplacedFrom (at + words) ps)
       leading-all l =
           let e : r ≡ words = omega (arith, k .most) in
           let f : at + words ≤ length (values ps) = omega (arith, k .there) in
-          (f, command-passes words (s .exact f) f (subst (λ (n : ℕ). placed (idOf (getD (values ps) at 0)) 0 (read (addresses ps) at n) ≡ true) e (k .right)))
+          (f, command-passes words s f (subst (λ (n : ℕ). placed (idOf (getD (values ps) at 0)) 0 (read (addresses ps) at n) ≡ true) e (k .right)))

@@ -1,26 +1,27 @@
 // Refusals 13 and 14: which of them, and where, only a refusal asks (document 02, Ticket 1).
 use rules::NO_BIT;
 use rules::Refusal;
+use table::Group;
 ghost use mathlib.Core.Path.{_≡_};
 ghost use Prim.Native.Nat.{_<_};
 ghost use lib.ListN.{length};
 ghost use Rattle.rules.specs.Pci.{values, misplaced, outside};
-ghost use Rattle.command.specs.View.{Sized};
+ghost use Rattle.command.specs.View.{sizeAt};
 ghost use Rattle.misplaced.specs.View.{behind, orElse, Leading};
 
-// The words of the command at a pair; of a group that is cut its own words, which are too many already.
+// The words of the command at a pair, of one that is cut too.
 fn size_at(pairs: &[u32], at: usize) -> usize
     requires { ⌜ at < length (values (now pairs)) ⌝ }
-    ensures { λ r. ⌜ Sized (values (now (pairs .entry))) at r ⌝ }
+    ensures { λ r. ⌜ r ≡ sizeAt (values (now (pairs .entry))) at ⌝ }
 {
-    let id = words::id_of(pairs::value_at(pairs, at));
-    if !table::is_group(id) {
-        return 1;
-    }
-    if pairs.len() / 2 - at < 4 {
-        return 4;
-    }
-    4 + command::payload(id, pairs::group_at(pairs, at))
+    let w = pairs::value_at(pairs, at);
+    let g = Group {
+        header: words::header_of(w),
+        second: pairs::value_or_zero(pairs, at + 1),
+        third: pairs::value_or_zero(pairs, at + 2),
+        fourth: pairs::value_or_zero(pairs, at + 3),
+    };
+    command::size(words::id_of(w), g)
 }
 
 // How many pairs of a command, from its first on, are there and stand at its addresses.

@@ -42,7 +42,7 @@ commands =
     ∷ "90 depth constants"
     ∷ "c4 LOD bias enables" ∷ [])
 
--- what each refusal means, and what a scene builder looks at: the words of README's table. 8 is no longer given, and 11 is
+-- what each refusal means, and what a scene builder looks at: the words of crates/host/xp10.h. 8 is no longer given, and 11 is
 -- not the tool's.
 unfoldable pub refusals : List ℕ
 refusals =

@@ -1,11 +1,11 @@
 -- The pairs of a buffer by their numbers.
-use Prim.Native.Nat.{ℕ, zero, suc, _+_, _*_, _/_, _^_, _<_}
+use Prim.Native.Nat.{ℕ, zero, suc, _+_, _*_, _/_, _%_, _^_, _<_}
 use native.Mathlib.Omega.{arith}
 use mathlib.Core.Path.{_≡_, refl, ap, _∙_}
 use mathlib.Core.List.{List, [], _∷_}
 use lib.ListN.{length, getD}
 use Rattle.rules.specs.Word.{idOf}
-use Rattle.rules.specs.Pci.{values}
+use Rattle.rules.specs.Pci.{addressCount, values}
 use Rattle.pairs.specs.View.{addresses}
 
 pub pair-count : (ps : List ℕ) → length (values ps) ≡ length ps / 2
@@ -32,3 +32,13 @@ address-of (a ∷ v ∷ ps) (suc at) h =
 -- an id that a pair's value has
 pub id-small : (ps : List ℕ) (at id : ℕ) → at < length (values ps) → getD ps (2 * at + 1) 0 < 2 ^ 32 → id ≡ idOf (getD (values ps) at 0) → id < 256
 id-small ps at id h f e = omega (arith, value-of ps at h, f, e)
+
+-- a command has one address at least
+pub count-some : (id n : ℕ) → n ≡ addressCount id → 0 < n
+unfolding addressCount
+count-some id n e = omega arith
+
+-- the number of an address that a word goes to
+pub count-few : (id n word : ℕ) → n ≡ addressCount id → word % n < 4
+unfolding addressCount
+count-few id n word e = rw e (omega arith)

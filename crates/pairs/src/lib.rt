@@ -5,15 +5,25 @@ use table::Group;
 ghost use mathlib.Core.Path.{_≡_};
 ghost use Prim.Native.Nat.{_+_, _<_, _≤_};
 ghost use lib.ListN.{length, getD};
-ghost use Rattle.rules.specs.Pci.{address, values};
+ghost use Rattle.rules.specs.Pci.{addressCount, address, values};
 ghost use Rattle.table.specs.Tables.{groupAt};
 ghost use Rattle.pairs.specs.View.{addresses};
+
+// The addresses of a group.
+const GROUP_ADDRESSES: usize = 4;
+
+// How many addresses a command has, which its words go to in turn.
+fn address_count(id: u8) -> usize
+    ensures { λ r. ⌜ r ≡ addressCount id ⌝ }
+{
+    GROUP_ADDRESSES
+}
 
 // The address of a command's word, counted from 0.
 pub fn address(id: u8, word: usize) -> u32
     ensures { λ r. ⌜ r ≡ address id word ⌝ }
 {
-    0x2800 + (id as u32) * 4 + ((word % 4) as u32) * 4
+    0x2800 + (id as u32) * 4 + ((word % address_count(id)) as u32) * 4
 }
 
 pub fn address_at(pairs: &[u32], at: usize) -> u32
@@ -28,6 +38,16 @@ pub fn value_at(pairs: &[u32], at: usize) -> u32
     ensures { λ r. ⌜ r ≡ getD (values (now (pairs .entry))) at 0 ⌝ }
 {
     pairs[2 * at + 1]
+}
+
+// The same, zero past the end.
+pub fn value_or_zero(pairs: &[u32], at: usize) -> u32
+    ensures { λ r. ⌜ r ≡ getD (values (now (pairs .entry))) at 0 ⌝ }
+{
+    if at < pairs.len() / 2 {
+        return value_at(pairs, at);
+    }
+    0
 }
 
 pub fn group_at(pairs: &[u32], at: usize) -> Group

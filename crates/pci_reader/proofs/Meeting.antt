@@ -1,37 +1,41 @@
 -- The command at a pair, by the tests that the code makes.
 use Prim.Native.Nat.{ℕ, _+_, _-_, _^_, _≤_, _<_}
+use native.Mathlib.Nat.{zero-add}
 use native.Mathlib.Omega.{arith}
 use mathlib.Core.Path.{_≡_, refl, ap, ap₂, sym, _∙_}
 use mathlib.Core.Bool.{Bool, true, false, cond, not, _&&_, _||_}
-use mathlib.Core.List.{List}
+use mathlib.Core.List.{List, [], _∷_}
 use mathlib.Core.Option.{Option, none, some}
 use lib.Dec.{eqb, leb}
-use borrow.Author.Tests.{le-leb, leb-true}
+use borrow.Author.Tests.{le-leb, leb-true, le-ltb}
 use lib.ListN.{length, getD}
 use Rattle.rules.specs.declared.Refusal.{Refusal}
 use Rattle.rules.specs.Command.{payload}
-use Rattle.rules.specs.Values.{refusal}
+use Rattle.rules.specs.Values.{shift, Fault, firstFault}
 use Rattle.rules.specs.Form.{read}
-use Rattle.rules.specs.Walk.{start, walk}
-use Rattle.rules.specs.Pci.{address, values, unless}
+use Rattle.rules.specs.Walk.{walk}
+use Rattle.rules.specs.Pci.{addressCount, address, values, unless}
 use Rattle.theory.proofs.Bools.{and-left, and-right}
 use Rattle.table.specs.declared.Group.{Group}
 use Rattle.table.specs.Ids.{groupId}
 use Rattle.table.specs.Tables.{more, groupAt}
+use Rattle.values.specs.First.{found}
+use Rattle.faults.specs.Faults.{anyUndefined, valueFault}
+use Rattle.command.specs.declared.Command.{Command as Kept}
 use Rattle.command.specs.declared.Decoded.{Decoded}
 use Rattle.command.specs.declared.Decoded.the-variants as decoded
-use Rattle.command.specs.View.{sizeAt, KnownAt}
-use Rattle.command.proofs.Decoding.{size-group, size-least, size-single}
+use Rattle.command.specs.View.{sizeAt, refusedAt, groupOf, ifLegal, wholeGroup, decodedAt, KnownAt}
+use Rattle.command.proofs.Sizes.{size-group, size-single}
+use Rattle.command.proofs.Decoding.{group-valued}
 use Rattle.list.specs.declared.Cursor.{Cursor}
 use Rattle.list.specs.declared.Step.the-variants.{On, Refused}
-use Rattle.list.specs.declared.Walked.{Walked}
 use Rattle.list.specs.declared.Walked.the-variants as walked
-use Rattle.list.specs.View.{origin, advanced, taken, stepAt, walkedOf, InsideAfter}
+use Rattle.list.specs.View.{origin, keptFaults, refuseAt, advanced, taken, Steps, Walks, InsideAfter}
 use Rattle.list.proofs.Steps.{step-taken, inside-after, Walking, walking-start, walking-stop, walking-on, walking-end}
 use Rattle.pairs.specs.View.{addresses}
 use Rattle.placed.specs.View.{placed}
 use Rattle.misplaced.specs.View.{orElse, misplacedFrom}
-use Rattle.pci_reader.specs.View.{Met, Stepped}
+use Rattle.pci_reader.specs.View.{Met, placedGroup, Stepped, walkPairs}
 use Rattle.placed.proofs.Placed.{placed-add, placed-again}
 use Rattle.misplaced.proofs.Misplaced.{none-behind, command-passes, command-in-place}
 
@@ -46,6 +50,11 @@ neither false b e = (refl, e)
 not-of : (b : Bool) → b ≡ true → not b ≡ false
 not-of true e = refl
 not-of false e = let z : _≡_ {A = Bool} false true = e in cc
+
+-- a group has four addresses
+four-addresses : (id : ℕ) → groupId id ≡ true → addressCount id ≡ 4
+unfolding addressCount
+four-addresses id g = refl
 
 module _ (ps : List ℕ) (at id row : ℕ) (a : KnownAt (values ps) at id row) (small : id < 256) where
   -- its pairs are there and in place
@@ -79,40 +88,62 @@ module _ (ps : List ℕ) (at id row : ℕ) (a : KnownAt (values ps) at id row) (
 
   module _ (group : groupId id ≡ true) where
     pub group-whole : length (values ps) - at < 4 → misplacedFrom at ps ≡ none → ⊥
-    group-whole c e = omega (arith, there e, size-least (values ps) at id (a .id-is) small group, a .inside)
+    group-whole c e = omega (arith, there e, size-group (values ps) at id (a .id-is) small group, a .inside)
 
     module _ (four : at + 4 ≤ length (values ps)) (g : Group) (eg : g ≡ groupAt (values ps) at) (n : ℕ) (en : n ≡ payload id (g .header) (more g)) where
       size : sizeAt (values ps) at ≡ 4 + n
       size =
-          size-group (values ps) at id (a .id-is) small group (omega (arith, a .inside))
+          size-group (values ps) at id (a .id-is) small group
           ∙ ap (λ (x : ℕ). 4 + x) (sym (en ∙ ap (λ (x : Group). payload id (x .header) (more x)) eg))
 
-      -- the own words' pairs, and the payload's
-      parts : placed id 0 (read (addresses ps) at (4 + n)) ≡ (placed id 0 (read (addresses ps) at 4) && placed id 0 (read (addresses ps) (at + 4) n))
+      -- the pairs of the own words, and those behind them
+      abbrev own : Bool
+      own = placed id 0 (read (addresses ps) at 4)
+
+      abbrev behind : Bool
+      behind = leb n (length (values ps) - (at + 4)) && placed id 0 (read (addresses ps) (at + 4) n)
+
+      parts : placed id 0 (read (addresses ps) at (4 + n)) ≡ (own && placed id 0 (read (addresses ps) (at + 4) n))
       parts =
           placed-add id (addresses ps) at 4 n
-          ∙ ap (λ (b : Bool). placed id 0 (read (addresses ps) at 4) && b) (placed-again id 0 (read (addresses ps) (at + 4) n))
+          ∙ ap (λ (k : ℕ). own && placed id k (read (addresses ps) (at + 4) n)) (sym (zero-add (addressCount id) ∙ four-addresses id group))
+          ∙ ap (λ (b : Bool). own && b) (placed-again id 0 (read (addresses ps) (at + 4) n))
 
       pub group-bit : (u : Bool) → (not (placed id 0 (read (addresses ps) at 4)) || u) ≡ true → misplacedFrom at ps ≡ none → u ≡ true
-      group-bit u t e =
-          or-right (not (placed id 0 (read (addresses ps) at 4))) u
-          (not-of (placed id 0 (read (addresses ps) at 4)) (and-left (placed id 0 (read (addresses ps) at 4)) _ (sym parts ∙ placed-here e (4 + n) size))) t
+      group-bit u t e = or-right (not own) u (not-of own (and-left own _ (sym parts ∙ placed-here e (4 + n) size))) t
 
-      pub payload-there : misplacedFrom at ps ≡ none → (leb n (length (values ps) - (at + 4)) && placed id 0 (read (addresses ps) (at + 4) n)) ≡ true
-      payload-there e =
+      behind-there : misplacedFrom at ps ≡ none → behind ≡ true
+      behind-there e =
           ap₂ (λ (b c : Bool). b && c) (le-leb n (length (values ps) - (at + 4)) (omega (arith, there e, size)))
-          (and-right (placed id 0 (read (addresses ps) at 4)) _ (sym parts ∙ placed-here e (4 + n) size))
+          (and-right own _ (sym parts ∙ placed-here e (4 + n) size))
 
-      pub payload-inside : (leb n (length (values ps) - (at + 4)) && placed id 0 (read (addresses ps) (at + 4) n)) ≡ true → at + (4 + n) ≤ length (values ps)
-      payload-inside u =
+      behind-inside : behind ≡ true → at + (4 + n) ≤ length (values ps)
+      behind-inside u =
           let few = leb-true n (length (values ps) - (at + 4)) (and-left (leb n (length (values ps) - (at + 4))) _ u) in
           omega (arith, few, four)
 
-      pub group-passes : placed id 0 (read (addresses ps) at 4) ≡ true → (leb n (length (values ps) - (at + 4)) && placed id 0 (read (addresses ps) (at + 4) n)) ≡ true
-          → misplacedFrom at ps ≡ misplacedFrom (at + (4 + n)) ps
-      group-passes t u =
-          passes-here (4 + n) size (omega (arith, payload-inside u, a .inside))
-          (parts ∙ ap₂ (λ (b c : Bool). b && c) t (and-right (leb n (length (values ps) - (at + 4))) _ u))
+      module _ (t : placed id 0 (read (addresses ps) at 4) ≡ true) {b : Bool} (eb : b ≡ anyUndefined row g) (clear : b ≡ false) where
+        valued : decodedAt (values ps) at ≡ ifLegal at id g (wholeGroup (values ps) at (4 + n) row)
+        valued = group-valued (values ps) at id row a small group four g eg eb clear n en
+
+        by-place : found (valueFault id g) ≡ false → (p : Bool) → behind ≡ p → Met ps at (cond p (groupOf (4 + n) row) (refusedAt 9 at))
+        by-place f true u = (
+          sym (valued ∙ rw (f, le-ltb (length (values ps)) (at + (4 + n)) (behind-inside u))),
+          passes-here (4 + n) size (behind-inside u) (parts ∙ ap₂ (λ (b c : Bool). b && c) t (and-right (leb n (length (values ps) - (at + 4))) _ u)),
+        )
+        by-place f false u = λ e. let z : _≡_ {A = Bool} true false = sym (behind-there e) ∙ u in let y : _≡_ {A = ℕ} 0 1 = cc in absurd (omega arith)
+
+        -- 7 and 15 to 19, then the words behind
+        pub met-group : Met ps at (ifLegal at id g (placedGroup ps at id n row))
+        met-group =
+            (elim (found (valueFault id g)) as (λ f. found (valueFault id g) ≡ f → Met ps at (cond f (decoded.Refused (shift at (valueFault id g))) (placedGroup ps at id n row))) [
+              | true ↦ λ f e. sym (valued ∙ rw f)
+              | false ↦ λ f. by-place f behind refl
+            ]) refl
+
+        -- with none behind
+        pub met-fixed : n ≡ 0 → Met ps at (ifLegal at id g (groupOf 4 row))
+        met-fixed z = rw (z, le-leb 0 (length (values ps) - (at + 4)) (omega arith)) at met-group
 
 -- ---- a step
 
@@ -121,14 +152,20 @@ module _ (ps : List ℕ) (c : Cursor) where
   met-inside (decoded.Refused f) m long inside = tt
   met-inside (decoded.Command k) m long inside = inside-after (values ps) c (decoded.Command k) (m .0) long inside
 
+  by-faults : (k : Kept) → misplacedFrom (c .at) ps ≡ misplacedFrom (c .at + k .words) ps → (fs : List Fault)
+      → Steps (values ps) c (advanced c (firstFault (refuseAt c) fs (decoded.Command k)))
+      → Stepped ps c (advanced c (firstFault (refuseAt c) fs (decoded.Command k)))
+  by-faults k p [] s = (s, p)
+  by-faults k p (f ∷ fs) s =
+      (elim (f .found) as (λ b. Steps (values ps) c (advanced c (cond b (refuseAt c (f .why)) (firstFault (refuseAt c) fs (decoded.Command k))))
+      → Stepped ps c (advanced c (cond b (refuseAt c (f .why)) (firstFault (refuseAt c) fs (decoded.Command k))))) [
+        | true ↦ λ t e. t
+        | false ↦ λ t. by-faults k p fs t
+      ]) s
+
   pub stepped : (d : Decoded) → Met ps (c .at) d → Stepped ps c (taken c d)
-  stepped (decoded.Refused f) m = λ e image. step-taken (values ps) c (decoded.Refused f) (m e) image
-  stepped (decoded.Command k) m = by-order (c .flip && not (k .begin)) (λ image. step-taken (values ps) c (decoded.Command k) (m .0) image)
-    where
-      by-order : (b : Bool) → ((image : List ℕ) → advanced c (cond b (decoded.Refused (refusal 10 (c .at))) (decoded.Command k)) ≡ stepAt (values ps) image c)
-          → Stepped ps c (advanced c (cond b (decoded.Refused (refusal 10 (c .at))) (decoded.Command k)))
-      by-order true s = λ e. s
-      by-order false s = (s, m .1)
+  stepped (decoded.Refused f) m = λ e. step-taken (values ps) c (decoded.Refused f) (m e)
+  stepped (decoded.Command k) m = by-faults k (m .1) (keptFaults c k) (step-taken (values ps) c (decoded.Command k) (m .0))
 
 -- ---- the walk
 
@@ -141,25 +178,19 @@ pub passing-start : (ps : List ℕ) → Passing ps origin
 passing-start ps = record { walking = walking-start (values ps); same = refl }
 
 module _ (ps : List ℕ) (c : Cursor) (g : Passing ps c) where
-  -- what the walk gives from an image
-  abbrev result : List ℕ → Option Refusal → Walked
-  result image x = walkedOf (unless x (walk (start image) 0 0 (values ps)))
-
-  by-place : (x : Option Refusal) → misplacedFrom (c .at) ps ≡ x → (f : Refusal) → c .at < length (values ps) → Stepped ps c (Refused f)
-      → (image : List ℕ) → walked.Refused (orElse x f) ≡ result image x
-  by-place (some r) e f h s image = refl
-  by-place none e f h s image = sym (walking-stop (values ps) c h f (g .walking) (s e) image)
+  by-misplaced : (x : Option Refusal) → misplacedFrom (c .at) ps ≡ x → (f : Refusal) → c .at < length (values ps) → Stepped ps c (Refused f)
+      → Walks (λ s. unless x (walk s 0 0 (values ps))) (walked.Refused (orElse x f))
+  by-misplaced (some r) e f h q = λ s a. refl
+  by-misplaced none e f h q = walking-stop (values ps) c h f (g .walking) (q e)
 
   pub passing-stop : (f r : Refusal) → c .at < length (values ps) → Stepped ps c (Refused f) → r ≡ orElse (misplacedFrom (c .at) ps) f
-      → (image : List ℕ) → walked.Refused r ≡ result image (misplacedFrom 0 ps)
-  passing-stop f r h s e image =
-      ap walked.Refused e ∙ by-place (misplacedFrom (c .at) ps) refl f h s image ∙ ap (result image) (sym (g .same))
+      → Walks (walkPairs ps) (walked.Refused r)
+  passing-stop f r h q e = rw (e, g .same) (by-misplaced (misplacedFrom (c .at) ps) refl f h q)
 
   pub passing-on : (e : Cursor) → c .at < length (values ps) → Stepped ps c (On e) → (c .at < e .at) × Passing ps e
   passing-on e h s =
       let w = walking-on (values ps) c h e (g .walking) (s .0) in
       (w .0, record { walking = w .1; same = g .same ∙ s .1 })
 
-  pub passing-end : length (values ps) ≤ c .at → (image : List ℕ) → walked.Accepted (c .commands) (c .records) ≡ result image (misplacedFrom 0 ps)
-  passing-end h image =
-      sym (walking-end (values ps) c (g .walking) h image) ∙ ap (result image) (sym (g .same ∙ none-behind ps (c .at) h))
+  pub passing-end : length (values ps) ≤ c .at → Walks (walkPairs ps) (walked.Accepted (c .commands) (c .records))
+  passing-end h = rw (g .same ∙ none-behind ps (c .at) h) (walking-end (values ps) c (g .walking) h)

@@ -4,28 +4,22 @@ use native.Mathlib.Nat.{add-zero}
 use native.Mathlib.Numerals.{add-one, add-two, add-three}
 use native.Mathlib.Omega.{arith}
 use mathlib.Core.Path.{_≡_, refl, ap, ap₂, sym, _∙_}
-use mathlib.Core.Bool.{Bool, true, false, _||_}
 use mathlib.Core.List.{List, [], _∷_, _++_, append-assoc, append-nil}
-use lib.Dec.{leb}
 use lib.Pow.{split}
 use lib.ListN.{length, getD, set, take, drop}
 use lib.Seq.{sets, length-sets, drop-cons}
 use Rattle.rules.specs.Word.{idOf, headerOf, firstWord}
-use Rattle.rules.specs.Table.{isBegin}
-use Rattle.rules.specs.Command.{Command, words, payload, restSize}
+use Rattle.rules.specs.Command.{Command, words, restSize}
 use Rattle.rules.specs.Walk.{accepted, parse}
 use Rattle.rules.specs.Form.{read}
 use Rattle.rules.specs.Pci.{address, pairsFrom, commandPairs, pairsAll}
 use Rattle.theory.proofs.Image.{sets-append}
 use Rattle.theory.proofs.Pci.{pairs-length}
-use Rattle.table.specs.declared.Group.{Group}
-use Rattle.table.specs.Ids.{ofRow, beginId, groupId}
-use Rattle.table.specs.Tables.{rowAt, more, groupAt}
+use Rattle.table.specs.Tables.{rowAt}
 use Rattle.table.proofs.Tables.{Known, known}
 use Rattle.command.specs.View.{sizeAt}
-use Rattle.command.proofs.Decoding.{size-known, size-group, size-single}
+use Rattle.command.proofs.Sizes.{size-known}
 use Rattle.command.specs.Effects.{commandAt, CommandAt}
-use Rattle.command.proofs.Effects.{own-at}
 use Rattle.command.proofs.Standing.{command-at}
 use Rattle.list.proofs.Position.{Position, position-start, position-end, AtCommand, after, at-command}
 
@@ -105,28 +99,6 @@ module _ (l : List ℕ) (at : ℕ) (h : CommandAt l at) (w : ℕ) (ew : w ≡ ge
     e ∙ ap₂ (λ (i : ℕ) (ws : List ℕ). sets out (2 * at) (pairsFrom i 0 ws)) (sym (ap (λ (i : ℕ). rowAt i .id) (sym ei) ∙ k .own-id))
         (sym (command-words ∙ ap (read l at) s)),
   )
-
-  module _ (begin : Bool) (eb : begin ≡ beginId id) where
-    -- the test of the code says whether it is a group
-    group-test : (b : Bool) → (leb 0x40 id || begin) ≡ b → groupId id ≡ b
-    unfolding beginId
-    group-test b e =
-        k .group ∙ ap (λ (x : Bool). leb 0x40 id || x) (sym (eb ∙ ap (ofRow (λ r. isBegin (r .kind))) (k .found) ∙ k .begins)) ∙ e
-
-    -- one word
-    pub single-size : (leb 0x40 id || begin) ≡ false → sizeAt l at ≡ 1
-    single-size e = size-single l at id ei small (group-test false e)
-
-    module _ (e : (leb 0x40 id || begin) ≡ true) where
-      -- its own words are there
-      pub group-inside : at + 4 ≤ length l
-      group-inside = own-at l at h .group (ap groupId (sym ei) ∙ group-test true e)
-
-      -- its own words and its payload
-      pub group-size : (g : Group) → g ≡ groupAt l at → (n : ℕ) → n ≡ payload id (g .header) (more g) → sizeAt l at ≡ 4 + n
-      group-size g eg n en =
-          size-group l at id ei small (group-test true e) group-inside
-          ∙ sym (ap (λ (m : ℕ). 4 + m) (en ∙ ap (λ (x : Group). payload id (x .header) (more x)) eg))
 
 -- ---- of the commands passed
 

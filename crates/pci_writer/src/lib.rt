@@ -4,12 +4,12 @@
 use list::Walked;
 use rules::Answer;
 ghost use mathlib.Core.Path.{_≡_};
+ghost use Rattle.rules.specs.Lent.{given, left};
 ghost use Prim.Native.Nat.{_+_, _*_, _<_, _≤_};
 ghost use lib.ListN.{length};
 ghost use lib.Seq.{sets};
-ghost use Rattle.rules.specs.Walk.{parse, accepted};
 ghost use Rattle.rules.specs.Form.{read};
-ghost use Rattle.rules.specs.Answer.{commandsOf};
+ghost use Rattle.rules.specs.Answer.{outcome, IsAccepted, commandsFrom};
 ghost use Rattle.rules.specs.Pci.{commandPairs, pairsFrom, pairsAll, toPci};
 ghost use Rattle.command.specs.View.{sizeAt};
 ghost use Rattle.command.specs.Effects.{CommandAt, commandAt};
@@ -17,7 +17,7 @@ ghost use Rattle.command.specs.Effects.{CommandAt, commandAt};
 // The pair of a command of one word.
 fn write_single(list: &[u32], pairs: &mut [u32], at: usize, id: u8)
     requires { ⌜ (at < length (now list)) × (2 * at + 2 ≤ length (now pairs)) ⌝ }
-    ensures { λ _. ⌜ now (pairs .exit) ≡ sets (now (pairs .entry)) (2 * at) (pairsFrom id 0 (read (now (list .entry)) at 1)) ⌝ }
+    ensures { λ _. ⌜ left pairs ≡ sets (given pairs) (2 * at) (pairsFrom id 0 (read (given list) at 1)) ⌝ }
 {
     pairs[2 * at] = pairs::address(id, 0);
     pairs[2 * at + 1] = words::fetch(list, at);
@@ -26,7 +26,7 @@ fn write_single(list: &[u32], pairs: &mut [u32], at: usize, id: u8)
 // The pairs of a group.
 fn write_group(list: &[u32], pairs: &mut [u32], at: usize, id: u8)
     requires { ⌜ (at + 4 ≤ length (now list)) × (2 * at + 8 ≤ length (now pairs)) ⌝ }
-    ensures { λ _. ⌜ now (pairs .exit) ≡ sets (now (pairs .entry)) (2 * at) (pairsFrom id 0 (read (now (list .entry)) at 4)) ⌝ }
+    ensures { λ _. ⌜ left pairs ≡ sets (given pairs) (2 * at) (pairsFrom id 0 (read (given list) at 4)) ⌝ }
 {
     let a = words::fetch(list, at);
     let b = words::fetch(list, at + 1);
@@ -53,7 +53,7 @@ fn write_group(list: &[u32], pairs: &mut [u32], at: usize, id: u8)
 // The pairs of a group with its payload.
 fn write_words(list: &[u32], pairs: &mut [u32], at: usize, words: usize, id: u8)
     requires { ⌜ (at + words ≤ length (now list)) × (2 * at + 2 * words ≤ length (now pairs)) × (length (now list) ≤ 4096) ⌝ }
-    ensures { λ _. ⌜ now (pairs .exit) ≡ sets (now (pairs .entry)) (2 * at) (pairsFrom id 0 (read (now (list .entry)) at words)) ⌝ }
+    ensures { λ _. ⌜ left pairs ≡ sets (given pairs) (2 * at) (pairsFrom id 0 (read (given list) at words)) ⌝ }
 {
     let mut i: usize = 0;
     while i < words {
@@ -63,31 +63,30 @@ fn write_words(list: &[u32], pairs: &mut [u32], at: usize, words: usize, id: u8)
     }
 }
 
-// The pairs of the command at a position of an accepted list, and the position behind it. Each known id from 40 on has a
-// group.
+// The pairs of the command at a position of an accepted list, and the position behind it.
 fn write_command(list: &[u32], pairs: &mut [u32], at: usize) -> usize
     requires { ⌜ CommandAt (now list) at × (2 * at + 2 * sizeAt (now list) at ≤ length (now pairs)) ⌝ }
-    ensures { λ r. ⌜ (r ≡ at + sizeAt (now (list .entry)) at) × (now (pairs .exit) ≡ sets (now (pairs .entry)) (2 * at) (commandPairs (commandAt (now (list .entry)) at))) ⌝ }
+    ensures { λ r. ⌜ r ≡ at + sizeAt (given list) at ⌝ }
+    ensures { λ _. ⌜ left pairs ≡ sets (given pairs) (2 * at) (commandPairs (commandAt (given list) at)) ⌝ }
 {
     let id = words::id_of(words::fetch(list, at));
-    let group = (0x40 <= id) | table::is_begin(id);
-    if !group {
+    let words = command::size_at(list, at);
+    if words == 1 {
         write_single(list, pairs, at, id);
         return at + 1;
     }
-    let more = command::payload(id, command::group_at(list, at));
-    if 0 < more {
-        write_words(list, pairs, at, 4 + more, id);
-        return at + (4 + more);
+    if words == 4 {
+        write_group(list, pairs, at, id);
+        return at + 4;
     }
-    write_group(list, pairs, at, id);
-    at + 4
+    write_words(list, pairs, at, words, id);
+    at + words
 }
 
 // The pairs of an accepted list.
 fn write_list(list: &[u32], image: &[u32], pairs: &mut [u32])
-    requires { ⌜ (parse (now image) (now list) ≡ accepted (commandsOf (parse (now image) (now list)))) × (2 * length (now list) ≤ length (now pairs)) ⌝ }
-    ensures { λ _. ⌜ now (pairs .exit) ≡ sets (now (pairs .entry)) 0 (pairsAll (commandsOf (parse (now (image .entry)) (now (list .entry))))) ⌝ }
+    requires { ⌜ IsAccepted (now image) (now list) × (2 * length (now list) ≤ length (now pairs)) ⌝ }
+    ensures { λ _. ⌜ left pairs ≡ sets (given pairs) 0 (pairsAll (commandsFrom (given image) (given list))) ⌝ }
 {
     let mut at: usize = 0;
     while at < list.len() {
@@ -97,7 +96,7 @@ fn write_list(list: &[u32], image: &[u32], pairs: &mut [u32])
 
 // From a list and a register image to the list's writes over PCI.
 pub fn to_pci(list: &[u32], image: &[u32], pairs: &mut [u32]) -> Answer
-    ensures { λ r. ⌜ record { answer = r; image = now (image .entry); buffer = now (pairs .exit) } ≡ toPci (now (list .entry)) (now (image .entry)) (now (pairs .entry)) ⌝ }
+    ensures { λ r. ⌜ outcome r (given image) (left pairs) ≡ toPci (given list) (given image) (given pairs) ⌝ }
 {
     let w = list::check(list, image);
     match w {

@@ -1,5 +1,6 @@
 -- Addresses in place, one behind the other.
-use Prim.Native.Nat.{ℕ, suc, _+_, _*_, _%_}
+use Prim.Native.Nat.{ℕ, suc, _+_, _*_}
+use native.Mathlib.Nat.{add-mod-right}
 use native.Mathlib.Numerals.{add-one, add-two, add-three}
 use native.Mathlib.Omega.{arith}
 use mathlib.Core.Path.{_≡_, refl, ap, ap₂, sym, _∙_}
@@ -8,7 +9,7 @@ use mathlib.Core.List.{List, [], _∷_, _++_}
 use lib.Dec.{eqb}
 use lib.ListN.{length, getD}
 use Rattle.rules.specs.Form.{read}
-use Rattle.rules.specs.Pci.{address}
+use Rattle.rules.specs.Pci.{addressCount, address}
 use Rattle.theory.proofs.Image.{length-read, read-add}
 use Rattle.placed.specs.View.{placed}
 
@@ -51,11 +52,10 @@ placed-four id l at =
     rw (add-one at, add-two at, add-three at)
     (and-four (eqb (getD l at 0) (address id 0)) (eqb (getD l (suc at) 0) (address id 1)) (eqb (getD l (suc (suc at)) 0) (address id 2)) (eqb (getD l (suc (suc (suc at))) 0) (address id 3)))
 
--- "the load's own four addresses again"
-pub placed-again : (id k : ℕ) (xs : List ℕ) → placed id (k + 4) xs ≡ placed id k xs
+-- a command's addresses in turn
+pub placed-again : (id k : ℕ) (xs : List ℕ) → placed id (k + addressCount id) xs ≡ placed id k xs
 unfolding address
 placed-again id k [] = refl
 placed-again id k (x ∷ xs) =
-    let again : (k + 4) % 4 ≡ k % 4 = omega arith in
-    let on : suc (k + 4) ≡ suc k + 4 = omega arith in
-    ap₂ (λ (n : ℕ) (b : Bool). eqb x (0x2800 + id * 4 + n * 4) && b) again (ap (λ (n : ℕ). placed id n xs) on ∙ placed-again id (suc k) xs)
+    let on : suc (k + addressCount id) ≡ suc k + addressCount id = omega arith in
+    ap₂ (λ (n : ℕ) (b : Bool). eqb x (0x2800 + id * 4 + n * 4) && b) (add-mod-right k (addressCount id)) (ap (λ (n : ℕ). placed id n xs) on ∙ placed-again id (suc k) xs)

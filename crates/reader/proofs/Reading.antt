@@ -12,7 +12,7 @@ use Rattle.rules.specs.Values.{refusal}
 use Rattle.rules.specs.Walk.{Parsed, refused, accepted, parse}
 use Rattle.rules.specs.Image.{final}
 use Rattle.rules.specs.Records.{records, recordWords}
-use Rattle.rules.specs.Answer.{acceptedAnswer, refuse, room, readParsed, reading, commandsOf}
+use Rattle.rules.specs.Answer.{acceptedAnswer, outcome, refuse, room, readParsed, reading, commandsOf, commandsFrom, recordsFrom}
 use Rattle.theory.proofs.Verdict.{length-recordWords}
 use Rattle.list.specs.declared.Walked.the-variants as walked
 use Rattle.list.specs.View.{walkedOf}
@@ -41,12 +41,11 @@ module _ (l image buffer : List ℕ) where
     read-short h =
         sym (ap (readParsed l image buffer) (n .is) ∙ rw (lt-ltb (room buffer) (length (records 0 (commandsOf (parse image l)))) (omega (arith, n .records-are))))
 
+    pub read-fits : k ≤ length buffer / 4 → length (recordsFrom image l) ≤ length buffer
+    read-fits h = omega (arith, length-recordWords (records 0 (commandsOf (parse image l))), n .records-are)
+
     pub read-done : k ≤ length buffer / 4
-        → record {
-          answer = acceptedAnswer (length l) c k (k * 4);
-          image = final image (commandsOf (parse image l));
-          buffer = sets buffer 0 (recordWords (records 0 (commandsOf (parse image l))));
-        } ≡ reading l image buffer
+        → outcome (acceptedAnswer (length l) c k (k * 4)) (final image (commandsFrom image l)) (sets buffer 0 (recordsFrom image l)) ≡ reading l image buffer
     unfolding reading cs
     read-done h =
         let w = length-recordWords (records 0 (commandsOf (parse image l))) in

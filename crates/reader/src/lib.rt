@@ -8,10 +8,9 @@ ghost use mathlib.Core.Path.{_≡_};
 ghost use Prim.Native.Nat.{_+_, _*_, _≤_};
 ghost use lib.ListN.{length};
 ghost use lib.Seq.{sets};
-ghost use Rattle.rules.specs.Walk.{parse, accepted};
+ghost use Rattle.rules.specs.Lent.{given, left};
 ghost use Rattle.rules.specs.Image.{apply, final};
-ghost use Rattle.rules.specs.Records.{records, recordWords};
-ghost use Rattle.rules.specs.Answer.{reading, commandsOf};
+ghost use Rattle.rules.specs.Answer.{outcome, reading, IsAccepted, commandsFrom, recordsFrom};
 ghost use Rattle.table.specs.Ids.{settingKind};
 ghost use Rattle.command.specs.View.{sizeAt};
 ghost use Rattle.command.specs.Effects.{idAt, commandAt, CommandAt, recordAt};
@@ -26,7 +25,7 @@ pub struct Place {
 // A setting of four words goes to the image.
 fn set_group(list: &[u32], image: &mut [u32], at: usize)
     requires { ⌜ CommandAt (now list) at × (settingKind (idAt (now list) at) ≡ 2) × (length (now image) ≡ 256) ⌝ }
-    ensures { λ _. ⌜ now (image .exit) ≡ apply (commandAt (now (list .entry)) at) (now (image .entry)) ⌝ }
+    ensures { λ _. ⌜ left image ≡ apply (commandAt (given list) at) (given image) ⌝ }
 {
     let g = command::group_at(list, at);
     let id = words::id_of(words::fetch(list, at)) as usize;
@@ -36,7 +35,7 @@ fn set_group(list: &[u32], image: &mut [u32], at: usize)
 // A setting of one word does.
 fn set_single(list: &[u32], image: &mut [u32], at: usize)
     requires { ⌜ CommandAt (now list) at × (settingKind (idAt (now list) at) ≡ 1) × (length (now image) ≡ 256) ⌝ }
-    ensures { λ _. ⌜ now (image .exit) ≡ apply (commandAt (now (list .entry)) at) (now (image .entry)) ⌝ }
+    ensures { λ _. ⌜ left image ≡ apply (commandAt (given list) at) (given image) ⌝ }
 {
     let w = words::fetch(list, at);
     let id = words::id_of(w) as usize;
@@ -46,12 +45,11 @@ fn set_single(list: &[u32], image: &mut [u32], at: usize)
 // What a work command leaves in the image.
 fn leave_header(list: &[u32], image: &mut [u32], at: usize)
     requires { ⌜ CommandAt (now list) at × (settingKind (idAt (now list) at) ≡ 0) × (length (now image) ≡ 256) ⌝ }
-    ensures { λ _. ⌜ now (image .exit) ≡ apply (commandAt (now (list .entry)) at) (now (image .entry)) ⌝ }
+    ensures { λ _. ⌜ left image ≡ apply (commandAt (given list) at) (given image) ⌝ }
 {
     let w = words::fetch(list, at);
     let id = words::id_of(w);
-    let kept = (1 < id) & (id < 0x40);
-    if !kept {
+    if !table::keeps_header(id) {
         return;
     }
     if table::is_begin(id) {
@@ -64,7 +62,7 @@ fn leave_header(list: &[u32], image: &mut [u32], at: usize)
 // A work command gives a record.
 fn write_record(list: &[u32], records: &mut [u32], at: usize, written: usize, words: usize)
     requires { ⌜ CommandAt (now list) at × (settingKind (idAt (now list) at) ≡ 0) × (words ≡ sizeAt (now list) at) × (written + 4 ≤ length (now records)) ⌝ }
-    ensures { λ _. ⌜ now (records .exit) ≡ sets (now (records .entry)) written (recordAt (now (list .entry)) at) ⌝ }
+    ensures { λ _. ⌜ left records ≡ sets (given records) written (recordAt (given list) at) ⌝ }
 {
     let w = words::fetch(list, at);
     words::put4(
@@ -85,9 +83,9 @@ fn apply_work(
     written: usize,
 ) -> Place
     requires { ⌜ Applies (now list) at written (now image) (now records) × (settingKind (idAt (now list) at) ≡ 0) ⌝ }
-    ensures { λ r. ⌜ Applied (now (list .entry)) at written (now (image .entry)) (now (records .entry)) r (now (image .exit)) (now (records .exit)) ⌝ }
+    ensures { λ r. ⌜ Applied (given list) at written (given image) (given records) r (left image) (left records) ⌝ }
 {
-    let words = command::command_size(list, at);
+    let words = command::size_at(list, at);
     leave_header(list, image, at);
     write_record(list, records, at, written, words);
     Place {
@@ -105,7 +103,7 @@ fn apply_command(
     written: usize,
 ) -> Place
     requires { ⌜ Applies (now list) at written (now image) (now records) ⌝ }
-    ensures { λ r. ⌜ Applied (now (list .entry)) at written (now (image .entry)) (now (records .entry)) r (now (image .exit)) (now (records .exit)) ⌝ }
+    ensures { λ r. ⌜ Applied (given list) at written (given image) (given records) r (left image) (left records) ⌝ }
 {
     let id = words::id_of(words::fetch(list, at));
     if Settings::contains(id) {
@@ -127,8 +125,9 @@ fn apply_command(
 
 // The image and the records of an accepted list.
 fn apply_list(list: &[u32], image: &mut [u32], buffer: &mut [u32])
-    requires { ⌜ (parse (now image) (now list) ≡ accepted (commandsOf (parse (now image) (now list)))) × (4 * length (records 0 (commandsOf (parse (now image) (now list)))) ≤ length (now buffer)) ⌝ }
-    ensures { λ _. ⌜ (now (image .exit) ≡ final (now (image .entry)) (commandsOf (parse (now (image .entry)) (now (list .entry))))) × (now (buffer .exit) ≡ sets (now (buffer .entry)) 0 (recordWords (records 0 (commandsOf (parse (now (image .entry)) (now (list .entry))))))) ⌝ }
+    requires { ⌜ IsAccepted (now image) (now list) × (length (recordsFrom (now image) (now list)) ≤ length (now buffer)) ⌝ }
+    ensures { λ _. ⌜ left image ≡ final (given image) (commandsFrom (given image) (given list)) ⌝ }
+    ensures { λ _. ⌜ left buffer ≡ sets (given buffer) 0 (recordsFrom (given image) (given list)) ⌝ }
 {
     let mut p = Place { at: 0, written: 0 };
     while p.at < list.len() {
@@ -138,7 +137,7 @@ fn apply_list(list: &[u32], image: &mut [u32], buffer: &mut [u32])
 
 // The reader: from a list, a register image and a record buffer to a verdict, the new image and the records of work.
 pub fn read(list: &[u32], image: &mut [u32], records: &mut [u32]) -> Answer
-    ensures { λ r. ⌜ record { answer = r; image = now (image .exit); buffer = now (records .exit) } ≡ reading (now (list .entry)) (now (image .entry)) (now (records .entry)) ⌝ }
+    ensures { λ r. ⌜ outcome r (left image) (left records) ≡ reading (given list) (given image) (given records) ⌝ }
 {
     let w = list::check(list, image);
     match w {

@@ -12,7 +12,7 @@ use Rattle.endian.specs.Words.{chunks, wordsOf}
 use Rattle.text.specs.Text.{ascii}
 use Rattle.text.specs.Puts.{Puts}
 use Rattle.lines.specs.Lines.{line, countsLine, refusedLine}
-use Rattle.report.specs.Listing.{readBytes, wordsRead, listed, textOf, Printed, printed}
+use Rattle.report.specs.Listing.{readBytes, wordsRead, listed, textOf, Printed, printing, printed}
 use Rattle.report.specs.Prints.{Prints}
 use Rattle.report.proofs.Sizes.{printed-length}
 
@@ -31,31 +31,29 @@ pub listed-is : {o p : Outcome} {t u : List ℕ} {n : ℕ} → o ≡ p → Puts 
 listed-is e h = record { image-is = ap (λ (x : Outcome). x .image) e; records-is = ap (λ (x : Outcome). x .buffer) e; puts = rw e at h }
 
 module _ (input words image records text : List ℕ) where
-  refused-is : {part u : List ℕ} {n : ℕ} → Puts part text 0 u n
-      → _≡_ {A = Printed} (record { size = n; words = words; image = image; records = records; text = u })
-      (record { size = length part; words = words; image = image; records = records; text = sets text 0 part })
-  refused-is p =
-      ap₂ {C = Printed} (λ k t. record { size = k; words = words; image = image; records = records; text = t }) (omega (arith, p .next-is)) (p .text-is)
+  -- what a call leaves: the words, what is printed, and that this is short
+  leaves : {ws : List ℕ} {x : Printed} → ws ≡ sets words 0 (wordsRead input) → x ≡ printed input image records text
+      → (ws ≡ sets words 0 (wordsRead input)) × ((x ≡ printed input image records text) × (x .size ≤ 82003))
+  leaves w e = (w, (e, rw e (printed-length input image records text)))
+
+  refused-is : {part u : List ℕ} {n : ℕ} → Puts part text 0 u n → printing n image records u ≡ printing (length part) image records (sets text 0 part)
+  refused-is p = ap₂ {C = Printed} (λ k t. printing k image records t) (omega (arith, p .next-is)) (p .text-is)
 
   pub printed-over : {u : List ℕ} {n : ℕ} → 16384 < length input → Puts (refusedLine 1 4096) text 0 u n
-      → record { size = n; words = words; image = image; records = records; text = u } ≡ printed input words image records text
+      → (words ≡ sets words 0 (wordsRead input)) × ((printing n image records u ≡ printed input image records text) × (n ≤ 82003))
   unfolding printed readBytes wordsRead listed
-  printed-over h p = rw (lt-ltb 16384 (length input) h) (refused-is p)
+  printed-over h p = leaves (rw (lt-ltb 16384 (length input) h)) (rw (lt-ltb 16384 (length input) h) (refused-is p))
 
-  pub printed-uneven : {u : List ℕ} {n : ℕ} → length input ≤ 16384 → (length input % 4 ≡ 0 → ⊥)
-      → Puts (refusedLine 12 (length input / 4)) text 0 u n
-      → record { size = n; words = words; image = image; records = records; text = u } ≡ printed input words image records text
+  pub printed-uneven : {u : List ℕ} {n : ℕ} → length input ≤ 16384 → (length input % 4 ≡ 0 → ⊥) → Puts (refusedLine 12 (length input / 4)) text 0 u n
+      → (words ≡ sets words 0 (wordsRead input)) × ((printing n image records u ≡ printed input image records text) × (n ≤ 82003))
   unfolding printed readBytes wordsRead listed
-  printed-uneven h g p = rw (le-ltb 16384 (length input) h, ne-eqb (length input % 4) 0 g) (refused-is p)
+  printed-uneven h g p =
+      leaves (rw (le-ltb 16384 (length input) h, ne-eqb (length input % 4) 0 g)) (rw (le-ltb 16384 (length input) h, ne-eqb (length input % 4) 0 g) (refused-is p))
 
-  pub printed-whole : {im rs u : List ℕ} {n : ℕ} → length input ≤ 16384 → length input % 4 ≡ 0
-      → Prints (reading (wordsOf input) image records) im rs text u n
-      → record { size = n; words = sets words 0 (wordsOf input); image = im; records = rs; text = u } ≡ printed input words image records text
+  pub printed-whole : {im rs u : List ℕ} {n : ℕ} → length input ≤ 16384 → length input % 4 ≡ 0 → Prints (reading (wordsOf input) image records) im rs text u n
+      → (sets words 0 (wordsOf input) ≡ sets words 0 (wordsRead input)) × ((printing n im rs u ≡ printed input image records text) × (n ≤ 82003))
   unfolding printed readBytes wordsRead
   printed-whole {n = n} h g l =
       let s : n ≡ length (textOf (reading (wordsOf input) image records)) = omega (arith, l .puts .next-is) in
-      rw (le-ltb 16384 (length input) h, eq-eqb (length input % 4) 0 g, s, l .image-is, l .records-is, l .puts .text-is)
-
-  -- a listing is short
-  pub and-short : {x : Printed} → x ≡ printed input words image records text → (x ≡ printed input words image records text) × (x .size ≤ 82003)
-  and-short e = (e, rw e (printed-length input words image records text))
+      leaves (rw (le-ltb 16384 (length input) h, eq-eqb (length input % 4) 0 g))
+      (rw (le-ltb 16384 (length input) h, eq-eqb (length input % 4) 0 g, s, l .image-is, l .records-is, l .puts .text-is))

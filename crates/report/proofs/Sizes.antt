@@ -73,9 +73,9 @@ reading-bounded ws image buffer {o} e =
     record { bound = omega (arith, ap (λ (x : Outcome). length (textOf x)) e, reading-length ws image buffer) }
 
 -- no listing is longer
-pub printed-length : (input words image records text : List ℕ) → printed input words image records text .size ≤ 82003
+pub printed-length : (input image records text : List ℕ) → printed input image records text .size ≤ 82003
 unfolding printed readBytes
-printed-length input words image records text =
+printed-length input image records text =
     by-size (ltb 16384 (length input)) (eqb (length input % 4) 0)
   where
     by-size : (over whole : Bool) → length (textOf (cond over (refuse (refusal 1 4096) image records)

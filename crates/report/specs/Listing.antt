@@ -40,22 +40,18 @@ listed a ws =
 abbrev pub textOf : Outcome → List ℕ
 textOf o = listed (o .answer) (written o)
 
--- the listing's length, and the lent buffers after a call. The listing stands in front in the text's buffer; what does not
--- fit is left out.
+-- the listing's length, and the image and the buffers of records and of text after a call. The listing stands in front in the
+-- text's buffer; what does not fit is left out.
 pub record Printed : Type 0 where
   pub size : ℕ
-  pub words : List ℕ
   pub image : List ℕ
   pub records : List ℕ
   pub text : List ℕ
 
-unfoldable pub printed : List ℕ → List ℕ → List ℕ → List ℕ → List ℕ → Printed
-printed input words image records text =
+abbrev pub printing : ℕ → List ℕ → List ℕ → List ℕ → Printed
+printing size image records text = record { size = size; image = image; records = records; text = text }
+
+unfoldable pub printed : List ℕ → List ℕ → List ℕ → List ℕ → Printed
+printed input image records text =
     let o = readBytes input image records in
-    record {
-      size = length (textOf o);
-      words = sets words 0 (wordsRead input);
-      image = o .image;
-      records = o .buffer;
-      text = sets text 0 (textOf o);
-    }
+    printing (length (textOf o)) (o .image) (o .buffer) (sets text 0 (textOf o))

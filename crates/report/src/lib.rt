@@ -1,17 +1,19 @@
 // The listing of a command list, as text in a lent buffer.
 use rules::Answer;
 ghost use mathlib.Core.Path.{_≡_};
+ghost use Rattle.rules.specs.Lent.{given, left};
 ghost use Prim.Native.Nat.{_≤_};
+ghost use lib.Seq.{sets};
 ghost use lib.ListN.{length, take};
 ghost use Rattle.rules.specs.Answer.{reading};
 ghost use Rattle.text.specs.Puts.{Puts, Bounded};
-ghost use Rattle.report.specs.Listing.{listed, printed};
+ghost use Rattle.report.specs.Listing.{wordsRead, listed, printing, printed};
 ghost use Rattle.report.specs.Prints.{Prints};
 
 // The listing of an answer, from the words of the records.
 fn put_answer(text: &mut [u8], a: Answer, records: &[u32]) -> usize
     requires { ⌜ Bounded 0 (listed a (now records)) ⌝ }
-    ensures { λ r. ⌜ Puts (listed a (now (records .entry))) (now (text .entry)) 0 (now (text .exit)) r ⌝ }
+    ensures { λ r. ⌜ Puts (listed a (given records)) (given text) 0 (left text) r ⌝ }
 {
     if a.verdict != 0 {
         return lines::put_refused(text, words::wide(a.verdict), a.position);
@@ -30,7 +32,7 @@ fn put_list(
     text: &mut [u8],
 ) -> usize
     requires { ⌜ n ≤ length (now words) ⌝ }
-    ensures { λ r. ⌜ Prints (reading (take n (now (words .entry))) (now (image .entry)) (now (records .entry))) (now (image .exit)) (now (records .exit)) (now (text .entry)) (now (text .exit)) r ⌝ }
+    ensures { λ r. ⌜ Prints (reading (take n (given words)) (given image) (given records)) (left image) (left records) (given text) (left text) r ⌝ }
 {
     let a = reader::read(&words[..n], image, records);
     let k = a.words;
@@ -46,8 +48,8 @@ pub fn listing(
     records: &mut [u32; 16384],
     text: &mut [u8],
 ) -> usize
-    ensures { λ r. ⌜ record { size = r; words = now (words .exit); image = now (image .exit); records = now (records .exit); text = now (text .exit) }
-        ≡ printed (now (input .entry)) (now (words .entry)) (now (image .entry)) (now (records .entry)) (now (text .entry)) ⌝ }
+    ensures { λ _. ⌜ left words ≡ sets (given words) 0 (wordsRead (given input)) ⌝ }
+    ensures { λ r. ⌜ printing r (left image) (left records) (left text) ≡ printed (given input) (given image) (given records) (given text) ⌝ }
     ensures { λ r. ⌜ r ≤ 82003 ⌝ }
 {
     if 16384 < input.len() {

@@ -8,7 +8,7 @@ use Rattle.rules.specs.Command.{payload, commandSize}
 use Rattle.rules.specs.Place.{startFrom, wordMask}
 use Rattle.rules.specs.Values.{faults}
 use Rattle.rules.specs.Decode.{decodeRow, decode}
-use Rattle.rules.specs.Walk.{outOfOrder, orderAfter, step, walk, parse}
+use Rattle.rules.specs.Walk.{orderFaults, orderAfter, step, walk, parse}
 use Rattle.rules.specs.Form.{formFrom}
 use Rattle.rules.specs.Answer.{reading, normalising, measuring}
 use Rattle.rules.specs.Pci.{address, misplaced, parsePairs, toPci, fromPci}
@@ -18,5 +18,5 @@ use Rattle.rules.specs.Book.{bookFault, findingScene, tableFault, writin
 use Rattle.rules.specs.Cases.{every, cases}
 
 pub cases-hold : every cases ≡ true
-unfolding every cases bookFault findingScene tableFault writingBook inMode swap reading normalising measuring toPci fromPci pairCall turn readFrom readingScenes address misplaced parsePairs commandSize startFrom wordMask parse walk step decode decodeRow faults lowest undefined payload outOfOrder orderAfter rowOf table settings isBase formFrom
+unfolding every cases bookFault findingScene tableFault writingBook inMode swap reading normalising measuring toPci fromPci pairCall turn readFrom readingScenes address misplaced parsePairs commandSize startFrom wordMask parse walk step decode decodeRow faults lowest undefined payload orderFaults orderAfter rowOf table settings isBase formFrom
 cases-hold = refl

@@ -29,6 +29,9 @@ pub record Outcome : Type 0 where
   pub image : List ℕ
   pub buffer : List ℕ
 
+abbrev pub outcome : Answer → List ℕ → List ℕ → Outcome
+outcome a image buffer = record { answer = a; image = image; buffer = buffer }
+
 -- "On refusal the last three are 0, and image and buffers are as before."
 abbrev pub refusedAnswer : Refusal → Answer
 refusedAnswer f = record { verdict = f .number; position = f .word; commands = 0; records = 0; words = 0; bit = f .bit }
@@ -38,7 +41,7 @@ abbrev pub refusalOf : Answer → Refusal
 refusalOf a = record { number = a .verdict; word = a .position; bit = a .bit }
 
 abbrev pub refuse : Refusal → List ℕ → List ℕ → Outcome
-refuse f image buffer = record { answer = refusedAnswer f; image = image; buffer = buffer }
+refuse f image buffer = outcome (refusedAnswer f) image buffer
 
 -- with 6 the bit is one of the word's, and "every other verdict gives 32 there"
 abbrev pub tellsBit : Answer → Bool
@@ -59,12 +62,7 @@ acceptedList ws cs words = acceptedAnswer (length ws) (length cs) (length (recor
 
 -- the same, with the words written. "On acceptance the words after those written are as before."
 abbrev pub accept : List ℕ → List Command → List ℕ → List ℕ → List ℕ → Outcome
-accept ws cs written image buffer =
-    record {
-      answer = acceptedList ws cs (length written);
-      image = image;
-      buffer = written ++ drop (length written) buffer;
-    }
+accept ws cs written image buffer = outcome (acceptedList ws cs (length written)) image (written ++ drop (length written) buffer)
 
 -- 11 "record or output buffer too small", at "the list's length", "exactly when what is to be written doesn't fit"
 abbrev pub fitting : Bool → List ℕ → List ℕ → List ℕ → Outcome → Outcome
@@ -104,18 +102,29 @@ measureParsed ws image (accepted cs) = acceptedList ws cs (length (wordsAll (for
 unfoldable pub measuring : List ℕ → List ℕ → Answer
 measuring ws image = measureParsed ws image (parse image ws)
 
--- the commands of an accepted list
+-- the commands of an accepted list, none of one that is refused
 abbrev pub commandsOf : Parsed → List Command
 commandsOf (refused f) = []
 commandsOf (accepted cs) = cs
 
+-- the commands of a list from an image, and that the list is accepted with them
+abbrev pub commandsFrom : List ℕ → List ℕ → List Command
+commandsFrom image ws = commandsOf (parse image ws)
+
+abbrev pub IsAccepted : List ℕ → List ℕ → Type 0
+IsAccepted image ws = parse image ws ≡ accepted (commandsFrom image ws)
+
+-- the words of its records
+abbrev pub recordsFrom : List ℕ → List ℕ → List ℕ
+recordsFrom image ws = recordWords (records 0 (commandsFrom image ws))
+
 -- what an accepted list does from an image
 abbrev pub does : List ℕ → List ℕ → Effect
-does image ws = effect image (commandsOf (parse image ws))
+does image ws = effect image (commandsFrom image ws)
 
 -- the words of an accepted list's normal form
 abbrev pub normalForm : List ℕ → List ℕ → List ℕ
-normalForm image ws = wordsAll (form image (commandsOf (parse image ws)))
+normalForm image ws = wordsAll (form image (commandsFrom image ws))
 
 -- the words that a call has written, alone
 abbrev pub written : Outcome → List ℕ

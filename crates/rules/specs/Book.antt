@@ -132,14 +132,20 @@ pub record BookOutcome : Type 0 where
   pub buffer : List ℕ
 
 -- "a refusal changes neither the image nor any buffer" (document 01)
+abbrev pub bookOutcome : BookAnswer → List ℕ → BookOutcome
+bookOutcome a buffer = record { answer = a; buffer = buffer }
+
+abbrev pub bookAnswer : ℕ → ℕ → BookAnswer
+bookAnswer verdict words = record { verdict = verdict; words = words }
+
 abbrev pub noBook : ℕ → List ℕ → BookOutcome
-noBook n buffer = record { answer = record { verdict = n; words = 0 }; buffer = buffer }
+noBook n buffer = bookOutcome (bookAnswer n 0) buffer
 
 -- 11 where the book does not fit; else its words, and "the words after those written are as before" (document 01)
 abbrev pub putBook : List ℕ → List ℕ → BookOutcome
 putBook book buffer =
     cond (ltb (length buffer) (length book)) (noBook 11 buffer)
-    (record { answer = record { verdict = 0; words = length book }; buffer = book ++ drop (length book) buffer })
+    (bookOutcome (bookAnswer 0 (length book)) (book ++ drop (length book) buffer))
 
 -- "The writer gives 22, 23, 24 .. and, last, 11"
 unfoldable pub writingBook : List ℕ → List ℕ → List ℕ → BookOutcome

@@ -16,3 +16,4 @@ pub mod Session
 pub mod Swap
 pub mod Book
 pub mod Cases
+pub mod Lent

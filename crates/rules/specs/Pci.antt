@@ -14,11 +14,16 @@ use Rattle.rules.specs.Answer.{Outcome, writeParsed}
 
 -- ---- from a list to pairs
 
--- The address of word k, from 0 on, of a command. "a one-word command goes to 2800 hex plus id × 4. A group's four words
--- go there and to the next three addresses in steps of 4. Each payload group of a load uses the load's own four addresses
--- again. BEGIN counts as a group".
+-- How many addresses a command has, which its words go to in turn. "A group's four words go there and to the next three addresses
+-- in steps of 4. Each payload group of a load uses the load's own four addresses again. BEGIN counts as a group". A command of one
+-- word asks for the first alone.
+unfoldable pub addressCount : ℕ → ℕ
+addressCount id = 4
+
+-- The address of word k, from 0 on, of a command: "a one-word command goes to 2800 hex plus id × 4".
 unfoldable pub address : ℕ → ℕ → ℕ
-address id k = 0x2800 + id * 4 + k % 4 * 4
+unfolding addressCount
+address id k = 0x2800 + id * 4 + k % addressCount id * 4
 
 -- "pairs of address and value .. Pairs lie in one word buffer, address first": the pairs of a command's words from word k on
 abbrev pub pairsFrom : ℕ → ℕ → List ℕ → List ℕ

@@ -16,6 +16,9 @@ pub record SessionOutcome : Type 0 where
   pub image : List ℕ
   pub buffer : List ℕ
 
+abbrev pub inSession : SessionAnswer → List ℕ → List ℕ → SessionOutcome
+inSession s image buffer = record { session = s; image = image; buffer = buffer }
+
 -- before the first pair: accepted, at "0 where .. no list was read"
 abbrev pub noLists : SessionAnswer
 noLists = record { answer = acceptedAnswer 0 0 0 0; lists = 0 }

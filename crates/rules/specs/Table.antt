@@ -11,50 +11,61 @@ use lib.ListN.{length}
 pub data Kind : Type 0 where
   setting plain keeps begins : Kind
 
--- a row of the table: the id, the mask of the header, the masks of the other words, and the kind
+-- a row of the table: the ids, the mask of the header, the masks of the other words, and the kind
+pub record Line : Type 0 where
+  pub ids : List ℕ
+  pub mask : ℕ
+  pub more : List ℕ
+  pub kind : Kind
+
+abbrev line : List ℕ → ℕ → List ℕ → Kind → Line
+line is m ms k = record { ids = is; mask = m; more = ms; kind = k }
+
+abbrev full : List ℕ
+full = 0xFFFFFFFF ∷ 0xFFFFFFFF ∷ 0xFFFFFFFF ∷ []
+
+-- the table, as the paper has it
+abbrev pub lines : List Line
+lines =
+    line (0x00 ∷ []) 0xFFFFFF [] plain
+    ∷ line (0x01 ∷ []) 0x000714 [] plain
+    ∷ line (0x02 ∷ []) 0xFFFFFF [] setting
+    ∷ line (0x05 ∷ []) 0xFFFFFF [] keeps
+    ∷ line (0x08 ∷ 0x0C ∷ 0x10 ∷ 0x14 ∷ []) 0xFFFFFF (0x803FFFFF ∷ 0x0FFFFFFF ∷ 0x00000000 ∷ []) begins
+    ∷ line (0x20 ∷ 0x22 ∷ 0x24 ∷ []) 0x00000F [] keeps
+    ∷ line (0x21 ∷ 0x23 ∷ 0x25 ∷ []) 0xFFFFFF [] keeps
+    ∷ line (0x26 ∷ []) 0x8F8F8F [] setting
+    ∷ line (0x30 ∷ 0x31 ∷ []) 0xFFFFFF [] setting
+    ∷ line (0x40 ∷ []) 0xF7FDFF full plain
+    ∷ line (0x48 ∷ []) 0xFFFFFF full plain
+    ∷ line (0x84 ∷ []) 0xFFFFFF (0x3FFF0FFF ∷ 0xFFFFFFFF ∷ 0xFFFFFFFF ∷ []) setting
+    ∷ line (0x88 ∷ []) 0xE7FFFF (0x00FFFFFF ∷ 0x003FFFFF ∷ 0x00FFFFFF ∷ []) setting
+    ∷ line (0x8C ∷ []) 0xFFFFFF full setting
+    ∷ line (0x90 ∷ []) 0xFFFFFF (0x00FFFFFF ∷ 0x0FFF0FFF ∷ 0x0FFF0FFF ∷ []) setting
+    ∷ line (0xC4 ∷ []) 0x000000 full setting
+    ∷ []
+
+-- the row of a command: its id, with its masks and its kind
 pub record Row : Type 0 where
   pub id : ℕ
   pub mask : ℕ
   pub more : List ℕ
   pub kind : Kind
 
-abbrev row : ℕ → ℕ → List ℕ → Kind → Row
-row i m ms k = record { id = i; mask = m; more = ms; kind = k }
+abbrev pub rowWith : Line → ℕ → Row
+rowWith l i = record { id = i; mask = l .mask; more = l .more; kind = l .kind }
 
-abbrev full : List ℕ
-full = 0xFFFFFFFF ∷ 0xFFFFFFFF ∷ 0xFFFFFFFF ∷ []
+-- a row for each id, before some others
+abbrev rowsWith : Line → List ℕ → List Row → List Row
+rowsWith l [] others = others
+rowsWith l (i ∷ is) others = rowWith l i ∷ rowsWith l is others
 
-abbrev begin : List ℕ
-begin = 0x803FFFFF ∷ 0x0FFFFFFF ∷ 0x00000000 ∷ []
+abbrev rowsOf : List Line → List Row
+rowsOf [] = []
+rowsOf (l ∷ ls) = rowsWith l (l .ids) (rowsOf ls)
 
--- the table, in the paper's order
 unfoldable pub table : List Row
-table =
-    row 0x00 0xFFFFFF [] plain
-    ∷ row 0x01 0x000714 [] plain
-    ∷ row 0x02 0xFFFFFF [] setting
-    ∷ row 0x05 0xFFFFFF [] keeps
-    ∷ row 0x08 0xFFFFFF begin begins
-    ∷ row 0x0C 0xFFFFFF begin begins
-    ∷ row 0x10 0xFFFFFF begin begins
-    ∷ row 0x14 0xFFFFFF begin begins
-    ∷ row 0x20 0x00000F [] keeps
-    ∷ row 0x22 0x00000F [] keeps
-    ∷ row 0x24 0x00000F [] keeps
-    ∷ row 0x21 0xFFFFFF [] keeps
-    ∷ row 0x23 0xFFFFFF [] keeps
-    ∷ row 0x25 0xFFFFFF [] keeps
-    ∷ row 0x26 0x8F8F8F [] setting
-    ∷ row 0x30 0xFFFFFF [] setting
-    ∷ row 0x31 0xFFFFFF [] setting
-    ∷ row 0x40 0xF7FDFF full plain
-    ∷ row 0x48 0xFFFFFF full plain
-    ∷ row 0x84 0xFFFFFF (0x3FFF0FFF ∷ 0xFFFFFFFF ∷ 0xFFFFFFFF ∷ []) setting
-    ∷ row 0x88 0xE7FFFF (0x00FFFFFF ∷ 0x003FFFFF ∷ 0x00FFFFFF ∷ []) setting
-    ∷ row 0x8C 0xFFFFFF full setting
-    ∷ row 0x90 0xFFFFFF (0x00FFFFFF ∷ 0x0FFF0FFF ∷ 0x0FFF0FFF ∷ []) setting
-    ∷ row 0xC4 0x000000 full setting
-    ∷ []
+table = rowsOf lines
 
 abbrev pub find : ℕ → List Row → Option Row
 find i [] = none

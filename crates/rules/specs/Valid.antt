@@ -4,12 +4,12 @@ use Prim.Native.Nat.{ℕ, _^_, _≤_, _<_}
 use mathlib.Core.Path.{_≡_}
 use mathlib.Core.Bool.{false}
 use mathlib.Core.List.{List, [], _∷_}
-use mathlib.Core.Option.{none, some}
+use mathlib.Core.Option.{some}
 use lib.ListN.{length, take}
 use Rattle.rules.specs.Table.{rowOf}
 use Rattle.rules.specs.Command.{Command, wordsAll, ownSize, restSize}
 use Rattle.rules.specs.Values.{Fault, faults}
-use Rattle.rules.specs.Walk.{State, start, outOfOrder, next}
+use Rattle.rules.specs.Walk.{State, start, orderFaults, next}
 
 abbrev pub NoFault : List Fault → Type 0
 NoFault [] = Unit {0}
@@ -29,7 +29,7 @@ AllValid (c ∷ cs) = Valid c × AllValid cs
 -- no command is refused for its order
 abbrev pub InOrder : State → List Command → Type 0
 InOrder s [] = Unit {0}
-InOrder s (c ∷ cs) = (outOfOrder s c ≡ none) × InOrder (next s c) cs
+InOrder s (c ∷ cs) = NoFault (orderFaults s c) × InOrder (next s c) cs
 
 -- some words are those of valid commands that stand in order
 pub record Parses (s : State) (ws : List ℕ) (cs : List Command) : Type 0 where

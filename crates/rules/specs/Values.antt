@@ -31,6 +31,11 @@ pub record Fault : Type 0 where
 abbrev pub fault : Bool → ℕ → ℕ → Fault
 fault b n w = record { found = b; why = refusal n w }
 
+-- the refusal of the first fault found, else what follows
+abbrev pub firstFault : {A : Type 0} → (Refusal → A) → List Fault → A → A
+firstFault refuse [] none-found = none-found
+firstFault refuse (f ∷ fs) none-found = cond (f .found) (refuse (f .why)) (firstFault refuse fs none-found)
+
 -- 6 at the "lowest such word", from word i on
 abbrev pub undefinedFaults : ℕ → List ℕ → List ℕ → List Fault
 undefinedFaults i [] ws = []

@@ -2,13 +2,12 @@
 use Prim.Native.Nat.{ℕ, zero, suc}
 use mathlib.Core.Bool.{Bool, true, false, cond, not, _&&_}
 use mathlib.Core.List.{List, [], _∷_}
-use mathlib.Core.Option.{Option, none, some}
 use lib.Dec.{eqb, ltb}
 use lib.ListN.{length}
 use Rattle.rules.specs.Table.{isBegin, isBase}
 use Rattle.rules.specs.Command.{Command}
 use Rattle.rules.specs.declared.Refusal.{Refusal}
-use Rattle.rules.specs.Values.{refusal, shift}
+use Rattle.rules.specs.Values.{refusal, shift, Fault, fault, firstFault}
 use Rattle.rules.specs.Decode.{Decoded, bad, good, decode}
 use Rattle.rules.specs.Image.{apply}
 
@@ -16,18 +15,22 @@ use Rattle.rules.specs.Image.{apply}
 pub record Order : Type 0 where
   pub flip : Bool
 
+-- before the first command
+abbrev pub orderAtStart : Order
+orderAtStart = record { flip = false }
+
 -- what is carried along a list: that, and the image that the next command meets
 pub record State : Type 0 where
   pub order : Order
   pub image : List ℕ
 
 abbrev pub start : List ℕ → State
-start image = record { order = record { flip = false }; image = image }
+start image = record { order = orderAtStart; image = image }
 
--- Flip (001, 3.3): "after a surface base command (21, 23 or 25) the list ends, or the next command is a BEGIN".
--- 10: "this command follows a surface base and is not a BEGIN"
-unfoldable pub outOfOrder : State → Command → Option ℕ
-outOfOrder s c = cond (s .order .flip && not (isBegin (c .row .kind))) (some 10) none
+-- The rules on order that a command breaks, each at its first word. Flip (001, 3.3): "after a surface base command (21, 23 or
+-- 25) the list ends, or the next command is a BEGIN". 10: "this command follows a surface base and is not a BEGIN"
+unfoldable pub orderFaults : State → Command → List Fault
+orderFaults s c = fault (s .order .flip && not (isBegin (c .row .kind))) 10 0 ∷ []
 
 unfoldable pub orderAfter : Order → Command → Order
 orderAfter o c = record { flip = isBase (c .row .id) }
@@ -41,13 +44,9 @@ pub data Step : Type 0 where
   stop : Refusal → Step
   took : Command → State → Step
 
-abbrev pub inOrder : Option ℕ → Command → State → Step
-inOrder (some n) c t = stop (refusal n 0)
-inOrder none c t = took c t
-
 abbrev pub stepDecoded : State → Decoded → Step
 stepDecoded s (bad f) = stop f
-stepDecoded s (good c) = inOrder (outOfOrder s c) c (next s c)
+stepDecoded s (good c) = firstFault stop (orderFaults s c) (took c (next s c))
 
 unfoldable pub step : State → ℕ → List ℕ → Step
 step s w ws = stepDecoded s (decode w ws)

@@ -6,10 +6,12 @@ use rules::NO_BIT;
 use rules::Refusal;
 use rules::SessionAnswer;
 ghost use mathlib.Core.Path.{_≡_};
+ghost use Rattle.rules.specs.Lent.{given, left};
 ghost use mathlib.Core.Bool.{cond};
 ghost use Prim.Native.Nat.{_/_, _≤_, _<_};
 ghost use lib.ListN.{length};
-ghost use Rattle.rules.specs.Session.{noLists, added, pairCall, withPairOf, readingScenes, Bounded};
+ghost use Rattle.rules.specs.Session.{inSession, noLists, added, pairCall, withPairOf, readingScenes, Bounded};
+ghost use Rattle.rules.specs.Answer.{outcome};
 
 fn no_lists() -> SessionAnswer
     ensures { λ r. ⌜ r ≡ noLists ⌝ }
@@ -54,7 +56,7 @@ fn read_pair(
     image: &mut [u32],
     records: &mut [u32],
 ) -> Answer
-    ensures { λ r. ⌜ record { answer = r; image = now (image .exit); buffer = now (records .exit) } ≡ pairCall (now (words .entry)) start length lists (now (image .entry)) (now (records .entry)) ⌝ }
+    ensures { λ r. ⌜ outcome r (left image) (left records) ≡ pairCall (given words) start length lists (given image) (given records) ⌝ }
 {
     let first = words::wide(start);
     let end = first + words::wide(length);
@@ -77,7 +79,7 @@ fn read_next(
     s: SessionAnswer,
 ) -> SessionAnswer
     requires { ⌜ Bounded s × (s .answer .words ≤ length (now records)) × (s .lists < length (now table) / 2) ⌝ }
-    ensures { λ r. ⌜ record { session = r; image = now (image .exit); buffer = now (records .exit) } ≡ withPairOf (now (words .entry)) (now (table .entry)) (s .lists) (record { session = s; image = now (image .entry); buffer = now (records .entry) }) ⌝ }
+    ensures { λ r. ⌜ inSession r (left image) (left records) ≡ withPairOf (given words) (given table) (s .lists) (inSession s (given image) (given records)) ⌝ }
 {
     let at = 2 * s.lists;
     let used = s.answer.words;
@@ -94,7 +96,7 @@ pub fn read_scenes(
     image: &mut [u32],
     records: &mut [u32],
 ) -> SessionAnswer
-    ensures { λ r. ⌜ record { session = r; image = now (image .exit); buffer = now (records .exit) } ≡ readingScenes (now (words .entry)) (now (table .entry)) (now (image .entry)) (now (records .entry)) ⌝ }
+    ensures { λ r. ⌜ inSession r (left image) (left records) ≡ readingScenes (given words) (given table) (given image) (given records) ⌝ }
 {
     let mut s = no_lists();
     while s.lists < table.len() / 2 {

@@ -26,7 +26,7 @@ use Rattle.rules.specs.Valid.{Valid}
 use Rattle.theory.proofs.Differing.{emit-cong}
 use Rattle.theory.proofs.Form.{wordsAll-append}
 use Rattle.settings.specs.Numbers.{odd, holds, numbers}
-use Rattle.settings.specs.Output.{longest, Output, isBuilt, putOne, emitOne, emitEach, emitChanged, CanEmit, CanEmitEach, CanEmitChanged}
+use Rattle.settings.specs.Output.{longest, Output, isBuilt, putOne, emitOne, emitAll, emitChanged, CanEmit, CanEmitAll, CanEmitChanged}
 use Rattle.settings.proofs.Numbers.{numbers-none, lowest-off, numbers-low, holds-at, settingOf, rowList, settingsFrom, settings-by-number, setting-of}
 
 -- ---- what the code does for one setting
@@ -72,12 +72,12 @@ module _ (more : ℕ) (l image latest : List ℕ) (k : ℕ) (o : Output) (w : �
 -- the loop over the numbers of a set
 pub record ToEmit (more first : ℕ) (l image latest : List ℕ) (left₀ : ℕ) (o₀ : Output) (left : ℕ) (o : Output) : Type 0 where
   pub small : left < 2 ^ 64
-  pub can : CanEmitEach more l image latest (numbers 64 first left) o
-  pub result : emitEach more l image latest (numbers 64 first left) o ≡ emitEach more l image latest (numbers 64 first left₀) o₀
+  pub can : CanEmitAll more l image latest (numbers 64 first left) o
+  pub result : emitAll more l image latest (numbers 64 first left) o ≡ emitAll more l image latest (numbers 64 first left₀) o₀
   pub long : length (o .out) ≡ length (o₀ .out)
 
 module _ {more first : ℕ} {l image latest : List ℕ} {left₀ : ℕ} {o₀ : Output} {left : ℕ} {o : Output} (t : ToEmit more first l image latest left₀ o₀ left o) where
-  pub to-emit-end : left ≡ 0 → o ≡ emitEach more l image latest (numbers 64 first left₀) o₀
+  pub to-emit-end : left ≡ 0 → o ≡ emitAll more l image latest (numbers 64 first left₀) o₀
   to-emit-end e = rw (e, numbers-none 64 first) at (t .result)
 
   module _ (ne : left ≡ 0 → ⊥) (k : ℕ) (ek : k ≡ first + trailingZeros 64 left) where
@@ -100,10 +100,10 @@ module _ {more first : ℕ} {l image latest : List ℕ} {left₀ : ℕ} {o₀ : 
           long = ap (λ (x : Output). length (x .out)) (sym e) ∙ n ∙ t .long;
         })
 
-pub emit-both : (changed : ℕ) (l image latest : List ℕ) (o o₁ o₂ : Output) → o₁ ≡ emitEach 0 l image latest (numbers 64 0 (changed % 65536)) o
-    → o₂ ≡ emitEach 3 l image latest (numbers 64 16 (changed / 65536)) o₁ → o₂ ≡ emitChanged changed l image latest o
+pub emit-both : (changed : ℕ) (l image latest : List ℕ) (o o₁ o₂ : Output) → o₁ ≡ emitAll 0 l image latest (numbers 64 0 (changed % 65536)) o
+    → o₂ ≡ emitAll 3 l image latest (numbers 64 16 (changed / 65536)) o₁ → o₂ ≡ emitChanged changed l image latest o
 unfolding emitChanged
-emit-both changed l image latest o o₁ o₂ e₁ e₂ = e₂ ∙ ap (emitEach 3 l image latest (numbers 64 16 (changed / 65536))) e₁
+emit-both changed l image latest o o₁ o₂ e₁ e₂ = e₂ ∙ ap (emitAll 3 l image latest (numbers 64 16 (changed / 65536))) e₁
 
 -- where nothing is set nothing is put out
 pub emit-none : (changed : ℕ) (l image latest : List ℕ) (o : Output) → changed ≡ 0 → o ≡ emitChanged changed l image latest o
@@ -270,7 +270,7 @@ module _ (l image₀ built image start latest : List ℕ) (changed : ℕ) where
     -- a number that is not in the set is a setting that is the same, or no setting
     one : length l ≤ longest → length image₀ ≡ 256 → o .written ≤ longest → (more : ℕ) → ((r : Row) → settingOf k ≡ some r → length (r .more) ≡ more)
         → (q : Option Row) → settingOf k ≡ q → (b : Bool) → LatestAt l built image q b (getD latest k 0)
-        → At (suc k) (so-far ++ put (rowList q)) (emitEach more l image₀ latest (cond b (k ∷ []) []) o) × CanEmitEach more l image₀ latest (cond b (k ∷ []) []) o
+        → At (suc k) (so-far ++ put (rowList q)) (emitAll more l image₀ latest (cond b (k ∷ []) []) o) × CanEmitAll more l image₀ latest (cond b (k ∷ []) []) o
     one few whole enough more fit none e true h = let z : _≡_ {A = ℕ} 0 1 = cc in absurd (omega arith)
     one few whole enough more fit none e false h = (kept [] refl (λ r f. let z : none ≡ some r = sym e ∙ f in let y : _≡_ {A = ℕ} 0 1 = cc in absurd (omega arith)), tt)
     one few whole enough more fit (some r) e false h = (kept (r ∷ []) (rw (same-read r built image h)) (only r e (SameRead r e) h), tt)
@@ -294,7 +294,7 @@ module _ (l image₀ built image start latest : List ℕ) (changed : ℕ) where
 
   module _ (few : length l ≤ longest) (whole : length image₀ ≡ 256) (is : Latest l built image changed latest) (more : ℕ) where
     abbrev Runs : ℕ → ℕ → List ℕ → Output → List ℕ → Type 0
-    Runs n k so-far o ks = At (k + n) (so-far ++ put (settingsFrom n k)) (emitEach more l image₀ latest ks o) × CanEmitEach more l image₀ latest ks o
+    Runs n k so-far o ks = At (k + n) (so-far ++ put (settingsFrom n k)) (emitAll more l image₀ latest ks o) × CanEmitAll more l image₀ latest ks o
 
     module _ (n k : ℕ) (so-far : List ℕ) (o : Output) (p : At k so-far o) (enough : length (so-far ++ put (settingsFrom (suc n) k)) ≤ longest)
         (fit : (r : Row) → settingOf k ≡ some r → length (r .more) ≡ more) where
@@ -311,7 +311,7 @@ module _ (l image₀ built image start latest : List ℕ) (changed : ℕ) where
           → (b : Bool) → holds changed k ≡ b → Runs (suc n) k so-far o (cond b (k ∷ ks) ks)
       run-one ks ih b h = by-bit b (one k so-far o p few whole (omega (arith, p .written-is, length-append so-far (put (settingsFrom (suc n) k)))) more fit (settingOf k) refl b (rw h at (is k)))
         where
-          by-bit : (b : Bool) → At (suc k) now (emitEach more l image₀ latest (cond b (k ∷ []) []) o) × CanEmitEach more l image₀ latest (cond b (k ∷ []) []) o
+          by-bit : (b : Bool) → At (suc k) now (emitAll more l image₀ latest (cond b (k ∷ []) []) o) × CanEmitAll more l image₀ latest (cond b (k ∷ []) []) o
               → Runs (suc n) k so-far o (cond b (k ∷ ks) ks)
           by-bit true q = let r = ih (emitOne more l image₀ latest k o) (q .0) in (rw (whole-put, next) at (r .0), (q .1 .0, r .1))
           by-bit false q = let r = ih o (q .0) in (rw (whole-put, next) at (r .0), r .1)
@@ -339,7 +339,7 @@ module _ (l image₀ built image start latest : List ℕ) (changed : ℕ) where
       let p₀ : At 0 so-far o = record { long = p .long; written-is = p .written-is; out-is = p .out-is; sent-is = λ k r f. rw (le-ltb k 0 (omega arith)) (p .sent-is k r f) } in
       let a = run few whole is 0 16 0 so-far o (λ j r b c f. setting-of j r f .more ∙ rw (lt-ltb j 16 (omega arith))) p₀
       (omega (arith, ap length e, length-append (so-far ++ put (settingsFrom 16 0)) (put (settingsFrom 64 16)))) in
-      let b = run few whole is 3 64 16 (so-far ++ put (settingsFrom 16 0)) (emitEach 0 l image₀ latest (numbers 16 0 (changed / 1)) o)
+      let b = run few whole is 3 64 16 (so-far ++ put (settingsFrom 16 0)) (emitAll 0 l image₀ latest (numbers 16 0 (changed / 1)) o)
       (λ j r b c f. setting-of j r f .more ∙ rw (le-ltb j 16 (omega arith))) (a .0) (rw e enough) in
       let q = rw (x, e) at (b .0) in (
         record { long = q .long; written-is = q .written-is; out-is = q .out-is; sent-is = λ k r f. rw (lt-ltb k 80 (omega (arith, setting-of k r f .small))) at (q .sent-is k r f) },

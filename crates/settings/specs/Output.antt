@@ -19,6 +19,9 @@ pub record Output : Type 0 where
   pub sent : List ℕ
   pub out : List ℕ
 
+abbrev pub put : ℕ → List ℕ → List ℕ → Output
+put n sent out = record { written = n; sent = sent; out = out }
+
 -- A command with a first word and `more` others sets what the form has built: the words of the setting's command last put
 -- out, or, where there is none, those of the starting image.
 unfoldable pub isBuilt : ℕ → List ℕ → List ℕ → ℕ → List ℕ → ℕ → Bool
@@ -41,14 +44,20 @@ emitOne more l image latest k o =
     let at = getD latest k 0 in
     cond {A = Output} (isBuilt more l image (getD l at 0) (read l (suc at) more) (getD (o .sent) k 0)) o (putOne more l latest k o)
 
-abbrev pub emitEach : ℕ → List ℕ → List ℕ → List ℕ → List ℕ → Output → Output
-emitEach more l image latest [] o = o
-emitEach more l image latest (k ∷ ks) o = emitEach more l image latest ks (emitOne more l image latest k o)
+abbrev pub emitAll : ℕ → List ℕ → List ℕ → List ℕ → List ℕ → Output → Output
+emitAll more l image latest [] o = o
+emitAll more l image latest (k ∷ ks) o = emitAll more l image latest ks (emitOne more l image latest k o)
+
+-- the numbers in a set of the settings of one word, and of those of four
+abbrev pub singlesIn : ℕ → List ℕ
+singlesIn changed = numbers 64 0 (changed % 65536)
+
+abbrev pub groupsIn : ℕ → List ℕ
+groupsIn changed = numbers 64 16 (changed / 65536)
 
 -- those of a set: first the settings of one word, then those of four
 unfoldable pub emitChanged : ℕ → List ℕ → List ℕ → List ℕ → Output → Output
-emitChanged changed l image latest o =
-    emitEach 3 l image latest (numbers 64 16 (changed / 65536)) (emitEach 0 l image latest (numbers 64 0 (changed % 65536)) o)
+emitChanged changed l image latest o = emitAll 3 l image latest (groupsIn changed) (emitAll 0 l image latest (singlesIn changed) o)
 
 -- a whole command stands where the setting was last set, and the form has room
 pub record CanEmit (more : ℕ) (l image latest : List ℕ) (k : ℕ) (o : Output) : Type 0 where
@@ -59,11 +68,11 @@ pub record CanEmit (more : ℕ) (l image latest : List ℕ) (k : ℕ) (o : Outpu
   pub sent-inside : getD (o .sent) k 0 + more ≤ length l
   pub fits : o .written ≤ longest
 
-abbrev pub CanEmitEach : ℕ → List ℕ → List ℕ → List ℕ → List ℕ → Output → Type 0
-CanEmitEach more l image latest [] o = Unit {0}
-CanEmitEach more l image latest (k ∷ ks) o =
-    CanEmit more l image latest k o × CanEmitEach more l image latest ks (emitOne more l image latest k o)
+abbrev pub CanEmitAll : ℕ → List ℕ → List ℕ → List ℕ → List ℕ → Output → Type 0
+CanEmitAll more l image latest [] o = Unit {0}
+CanEmitAll more l image latest (k ∷ ks) o =
+    CanEmit more l image latest k o × CanEmitAll more l image latest ks (emitOne more l image latest k o)
 
 pub record CanEmitChanged (changed : ℕ) (l image latest : List ℕ) (o : Output) : Type 0 where
-  pub singles : CanEmitEach 0 l image latest (numbers 64 0 (changed % 65536)) o
-  pub groups : CanEmitEach 3 l image latest (numbers 64 16 (changed / 65536)) (emitEach 0 l image latest (numbers 64 0 (changed % 65536)) o)
+  pub singles : CanEmitAll 0 l image latest (singlesIn changed) o
+  pub groups : CanEmitAll 3 l image latest (groupsIn changed) (emitAll 0 l image latest (singlesIn changed) o)

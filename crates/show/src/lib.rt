@@ -2,10 +2,11 @@
 // position behind it.
 use rules::Answer;
 ghost use mathlib.Core.Path.{_≡_};
+ghost use Rattle.rules.specs.Lent.{given, left};
 ghost use Prim.Native.Nat.{_+_, _≤_};
 ghost use lib.ListN.{length, getD};
 ghost use Rattle.rules.specs.Form.{read, equal};
-ghost use Rattle.rules.specs.Answer.{reading};
+ghost use Rattle.rules.specs.Answer.{outcome, reading};
 ghost use Rattle.text.specs.Puts.{Puts, Bounded};
 ghost use Rattle.names.specs.Names.{commands};
 ghost use Rattle.show.specs.Show.{wordsText, settingLine, changeLine, setsText, drawsText, acceptedText, showText};
@@ -15,7 +16,7 @@ ghost use Rattle.show.specs.Changes.{idLines};
 
 // A word of an image; 0 past its end.
 fn word_at(image: &[u32], i: usize) -> usize
-    ensures { λ r. ⌜ r ≡ getD (now (image .entry)) i 0 ⌝ }
+    ensures { λ r. ⌜ r ≡ getD (given image) i 0 ⌝ }
 {
     if i < image.len() {
         return words::wide(image[i]);
@@ -26,7 +27,7 @@ fn word_at(image: &[u32], i: usize) -> usize
 // Whether n words from word i on are the same in two images.
 fn same(before: &[u32], after: &[u32], i: usize, n: usize) -> bool
     requires { ⌜ i + n ≤ 65536 ⌝ }
-    ensures { λ r. ⌜ r ≡ equal (read (now (before .entry)) i n) (read (now (after .entry)) i n) ⌝ }
+    ensures { λ r. ⌜ r ≡ equal (read (given before) i n) (read (given after) i n) ⌝ }
 {
     if n == 0 {
         return true;
@@ -40,7 +41,7 @@ fn same(before: &[u32], after: &[u32], i: usize, n: usize) -> bool
 // n words from word i on.
 fn put_words(text: &mut [u8], at: usize, image: &[u32], i: usize, n: usize) -> usize
     requires { ⌜ (i + n ≤ 65536) × Bounded at (wordsText (read (now image) i n)) ⌝ }
-    ensures { λ r. ⌜ Puts (wordsText (read (now (image .entry)) i n)) (now (text .entry)) at (now (text .exit)) r ⌝ }
+    ensures { λ r. ⌜ Puts (wordsText (read (given image) i n)) (given text) at (left text) r ⌝ }
 {
     if n == 0 {
         return at;
@@ -60,7 +61,7 @@ fn put_setting(
     after: &[u32],
 ) -> usize
     requires { ⌜ (now names ≡ commands) × ((id + size ≤ 65536) × Bounded at (settingLine id size (now before) (now after))) ⌝ }
-    ensures { λ r. ⌜ Puts (settingLine id size (now (before .entry)) (now (after .entry))) (now (text .entry)) at (now (text .exit)) r ⌝ }
+    ensures { λ r. ⌜ Puts (settingLine id size (given before) (given after)) (given text) at (left text) r ⌝ }
 {
     let at = format::put_format(text, at, names, b"%2%n", &[id, id]);
     let at = put_words(text, at, before, id, size);
@@ -79,7 +80,7 @@ fn put_change(
     after: &[u32],
 ) -> usize
     requires { ⌜ (now names ≡ commands) × ((id + size ≤ 65536) × Bounded at (changeLine id size (now before) (now after))) ⌝ }
-    ensures { λ r. ⌜ Puts (changeLine id size (now (before .entry)) (now (after .entry))) (now (text .entry)) at (now (text .exit)) r ⌝ }
+    ensures { λ r. ⌜ Puts (changeLine id size (given before) (given after)) (given text) at (left text) r ⌝ }
 {
     if same(before, after, id, size) {
         return at;
@@ -98,7 +99,7 @@ fn put_changes(
     after: &[u32],
 ) -> usize
     requires { ⌜ (now names ≡ commands) × ((size ≤ 4) × Bounded at (idLines (now ids) size (now before) (now after))) ⌝ }
-    ensures { λ r. ⌜ Puts (idLines (now (ids .entry)) size (now (before .entry)) (now (after .entry))) (now (text .entry)) at (now (text .exit)) r ⌝ }
+    ensures { λ r. ⌜ Puts (idLines (given ids) size (given before) (given after)) (given text) at (left text) r ⌝ }
 {
     if ids.len() == 0 {
         return at;
@@ -110,7 +111,7 @@ fn put_changes(
 
 fn put_sets(text: &mut [u8], at: usize, names: &[u8], before: &[u32], after: &[u32]) -> usize
     requires { ⌜ (now names ≡ commands) × Bounded at (setsText (now before) (now after)) ⌝ }
-    ensures { λ r. ⌜ Puts (setsText (now (before .entry)) (now (after .entry))) (now (text .entry)) at (now (text .exit)) r ⌝ }
+    ensures { λ r. ⌜ Puts (setsText (given before) (given after)) (given text) at (left text) r ⌝ }
 {
     let at = text::put_all(text, at, b"sets: id name before -> after\n");
     let at = put_changes(text, at, names, &[0x02, 0x26, 0x30, 0x31], 1, before, after);
@@ -129,7 +130,7 @@ fn put_sets(text: &mut [u8], at: usize, names: &[u8], before: &[u32], after: &[u
 
 fn put_draws(text: &mut [u8], at: usize, names: &[u8], records: &[u32]) -> usize
     requires { ⌜ (now names ≡ commands) × Bounded at (drawsText (now records)) ⌝ }
-    ensures { λ r. ⌜ Puts (drawsText (now (records .entry))) (now (text .entry)) at (now (text .exit)) r ⌝ }
+    ensures { λ r. ⌜ Puts (drawsText (given records)) (given text) at (left text) r ⌝ }
 {
     let at = text::put_all(text, at, b"draws: at id words head name\n");
     lines::put_records(text, at, names, b"%d %2 %d %6%n\n", records)
@@ -144,7 +145,7 @@ fn put_accepted(
     form: usize,
 ) -> usize
     requires { ⌜ length (now records) ≤ 16384 ⌝ }
-    ensures { λ r. ⌜ Puts (acceptedText a (now (before .entry)) (now (after .entry)) (now (records .entry)) form) (now (text .entry)) 0 (now (text .exit)) r ⌝ }
+    ensures { λ r. ⌜ Puts (acceptedText a (given before) (given after) (given records) form) (given text) 0 (left text) r ⌝ }
 {
     let names = names::commands();
     let at = lines::put_counts(text, 0, a.commands, a.records);
@@ -161,14 +162,14 @@ fn put_accepted(
 
 // The reader, on an image and records of a fixed size.
 pub fn read(list: &[u32], image: &mut [u32; 256], records: &mut [u32; 16384]) -> Answer
-    ensures { λ r. ⌜ record { answer = r; image = now (image .exit); buffer = now (records .exit) } ≡ reading (now (list .entry)) (now (image .entry)) (now (records .entry)) ⌝ }
+    ensures { λ r. ⌜ outcome r (left image) (left records) ≡ reading (given list) (given image) (given records) ⌝ }
 {
     reader::read(list, image, records)
 }
 
 // The verdict on a list from an image, and what it sets and draws; at most 310,000 bytes.
 pub fn put_show(text: &mut [u8], list: &[u32], image: &[u32; 256]) -> usize
-    ensures { λ r. ⌜ Puts (showText (now (list .entry)) (now (image .entry))) (now (text .entry)) 0 (now (text .exit)) r ⌝ }
+    ensures { λ r. ⌜ Puts (showText (given list) (given image)) (given text) 0 (left text) r ⌝ }
     ensures { λ r. ⌜ r ≤ 310000 ⌝ }
 {
     let mut after = *image;

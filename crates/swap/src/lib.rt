@@ -7,10 +7,11 @@ use rules::Answer;
 use rules::NO_BIT;
 use rules::Refusal;
 ghost use mathlib.Core.Path.{_≡_};
+ghost use Rattle.rules.specs.Lent.{given, left};
 ghost use Prim.Native.Nat.{_≤_};
 ghost use lib.ListN.{length};
 ghost use Rattle.rules.specs.Values.{refusal};
-ghost use Rattle.rules.specs.Answer.{refusedAnswer};
+ghost use Rattle.rules.specs.Answer.{outcome, refusedAnswer};
 ghost use Rattle.rules.specs.Swap.{swap, wordsGot, readingIn, normalisingIn};
 
 // The word got in a mode (CommandSwap, 001, 3.1.3).
@@ -32,7 +33,7 @@ fn swap(word: u32, mode: u32) -> u32
 // The words got from a list go to the front of the room, and that part is handed back.
 fn words_got<'a>(list: &[u32], room: &'a mut [u32], mode: u32) -> &'a [u32]
     requires { ⌜ length (now list) ≤ length (now room) ⌝ }
-    ensures { λ r. ⌜ now r ≡ wordsGot mode (now (list .entry)) ⌝ }
+    ensures { λ r. ⌜ now r ≡ wordsGot mode (given list) ⌝ }
 {
     let mut i = 0;
     while i < list.len() {
@@ -55,7 +56,7 @@ fn no_such_mode() -> Answer
 
 // The reader in a mode. A list that is too long is refused by its length, and its words are not got.
 pub fn read(list: &[u32], image: &mut [u32], records: &mut [u32], mode: u32) -> Answer
-    ensures { λ r. ⌜ record { answer = r; image = now (image .exit); buffer = now (records .exit) } ≡ readingIn (now (list .entry)) (now (image .entry)) (now (records .entry)) mode ⌝ }
+    ensures { λ r. ⌜ outcome r (left image) (left records) ≡ readingIn (given list) (given image) (given records) mode ⌝ }
 {
     if 3 < mode {
         return no_such_mode();
@@ -77,7 +78,7 @@ pub fn read(list: &[u32], image: &mut [u32], records: &mut [u32], mode: u32) -> 
 
 // The normaliser in a mode.
 pub fn normalise(list: &[u32], image: &[u32], out: &mut [u32], mode: u32) -> Answer
-    ensures { λ r. ⌜ record { answer = r; image = now (image .entry); buffer = now (out .exit) } ≡ normalisingIn (now (list .entry)) (now (image .entry)) (now (out .entry)) mode ⌝ }
+    ensures { λ r. ⌜ outcome r (given image) (left out) ≡ normalisingIn (given list) (given image) (given out) mode ⌝ }
 {
     if 3 < mode {
         return no_such_mode();

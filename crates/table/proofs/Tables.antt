@@ -9,12 +9,12 @@ use mathlib.Core.Option.{Option, none, some}
 use lib.Dec.{eqb, leb, ltb}
 use borrow.Author.Tests.{eqb-true, ltb-true, not-true}
 use lib.ListN.{length, getD}
-use Rattle.rules.specs.Table.{Kind, setting, plain, keeps, begins, Row, table, rowOf, isSetting, isBegin, isBase}
+use Rattle.rules.specs.Table.{Row, table, rowOf, isSetting, isBegin, isBase}
 use Rattle.rules.specs.Form.{equal}
 use Rattle.theory.proofs.Bools.{and-left, and-right}
 use Rattle.theory.proofs.Image.{equal-true}
-use Rattle.table.specs.Ids.{beginId, settingId, groupId, settingKind}
-use Rattle.table.specs.Tables.{baseRow, timerRow, beginRow, clipRow, rowCount, tabulate, rowNumber, rowTable, orUnknown, rowAt, masksOf, maskAt, rowMasks, maskTable}
+use Rattle.table.specs.Ids.{beginId, keptId, settingId, groupId, settingKind, holds, inSet, groupSettings, groups, keptIds}
+use Rattle.table.specs.Tables.{beginRow, baseRow, rowCount, settingRow, tabulate, rowNumber, rowTable, orUnknown, rowAt, masksOf, maskAt, rowMasks, maskTable}
 
 -- ---- a table of a rule's values, and a test at each of its numbers
 
@@ -47,50 +47,33 @@ ruled id = (eqb id 0x40 || eqb id 0x48) || (eqb id 0x84 || eqb id 0x88)
 abbrev pub beginTest : ℕ → Bool
 beginTest id = (eqb id 0x08 || eqb id 0x0C) || (eqb id 0x10 || eqb id 0x14)
 
-abbrev pub groupSettingTest : ℕ → Bool
-groupSettingTest id = ((eqb id 0x84 || eqb id 0x88) || (eqb id 0x8C || eqb id 0x90)) || eqb id 0xC4
-
-abbrev pub singleSettingTest : ℕ → Bool
-singleSettingTest id = (eqb id 0x02 || eqb id 0x26) || (eqb id 0x30 || eqb id 0x31)
+abbrev pub keptTest : ℕ → Bool
+keptTest id = ltb id 64 && holds keptIds (id % 64)
 
 abbrev pub kindTest : ℕ → ℕ
-kindTest id = cond (leb 0x84 id) (cond (groupSettingTest id) 2 0) (cond (singleSettingTest id) 1 0)
+kindTest id = cond (inSet groupSettings id) 2 (cond ((eqb id 0x02 || eqb id 0x26) || (eqb id 0x30 || eqb id 0x31)) 1 0)
 
-abbrev pub groupTest : ℕ → Bool
-groupTest id = cond (leb 0x40 id) ((eqb id 0x40 || eqb id 0x48) || eqb (settingKind id) 2) (beginId id)
-
-abbrev pub knownGroupTest : ℕ → Bool
-knownGroupTest id = leb 0x40 id || eqb (rowNumber id) beginRow
-
--- the ids of work commands that keep their header
-abbrev pub keptId : ℕ → Bool
-keptId id = ltb 1 id && ltb id 0x40
-
--- where a kind's header goes
-abbrev pub leavesAs : Kind → ℕ → Bool
-leavesAs setting id = true
-leavesAs plain id = not (keptId id)
-leavesAs keeps id = keptId id && not (beginId id)
-leavesAs begins id = keptId id && beginId id
+abbrev pub knownGroupTest : ℕ → ℕ → Bool
+knownGroupTest id row = leb 0x40 id || eqb row beginRow
 
 idFits : ℕ → Bool
-idFits id = same (beginId id) (beginTest id) && (eqb (settingKind id) (kindTest id) && same (groupId id) (groupTest id))
+idFits id = (same (beginId id) (beginTest id) && same (keptId id) (keptTest id)) && (eqb (settingKind id) (kindTest id) && same (groupId id) (inSet groups id))
 
--- of a known id: its row is one of them, with the row's masks and its size; four words where values have rules; its kind and
--- what it leaves by its row; a BEGIN has four words, and a surface base one
+-- of a known id: its row is one of them, with the row's masks and its size; four words where values have rules; its kind by its
+-- row; a BEGIN has four words, and a surface base one
 rowFits : ℕ → Option Row → Bool
 rowFits id none = eqb (rowNumber id) rowCount
 rowFits id (some r) =
     (eqb (r .id) id && ltb (rowNumber id) rowCount) && (equal (rowMasks (rowNumber id)) (masksOf r) && (eqb (length (r .more)) (cond (groupId id) 3 0)
-    && ((not (ruled id) || groupId id) && (same (groupId id) (knownGroupTest id) && (same (isSetting (r .kind)) (leb (cond (groupId id) clipRow timerRow) (rowNumber id))
-    && (leavesAs (r .kind) id && (same (isBegin (r .kind)) (eqb (rowNumber id) beginRow)
-    && (same (isBase id) (eqb (rowNumber id) baseRow) && not (cond (groupId id) (isBase id) (isBegin (r .kind)))))))))))
+    && ((not (ruled id) || groupId id) && (same (groupId id) (knownGroupTest id (rowNumber id)) && (same (isSetting (r .kind)) (settingRow (groupId id) (rowNumber id))
+    && (same (isBegin (r .kind)) (eqb (rowNumber id) beginRow)
+    && (same (isBase id) (eqb (rowNumber id) baseRow) && not (cond (groupId id) (isBase id) (isBegin (r .kind))))))))))
 
 fitsAt : ℕ → Bool
 fitsAt id = idFits id && rowFits id (rowOf id)
 
 all-fit : every 256 0 fitsAt ≡ true
-unfolding fitsAt idFits rowFits rowNumber rowOf table maskAt rowAt isBase beginId settingKind settingId groupId
+unfolding fitsAt idFits rowFits rowNumber rowOf table maskAt isBase beginId settingKind settingId groupId keptId keptIds groupSettings groups
 all-fit = refl
 
 -- ---- what it says
@@ -102,9 +85,8 @@ pub record Known (id : ℕ) : Type 0 where
   pub masks : rowMasks (rowNumber id) ≡ masksOf (rowAt id)
   pub length-more : length (rowAt id .more) ≡ cond (groupId id) 3 0
   pub one-word : groupId id ≡ false → ruled id ≡ false
-  pub group : groupId id ≡ knownGroupTest id
-  pub setting-row : isSetting (rowAt id .kind) ≡ leb (cond (groupId id) clipRow timerRow) (rowNumber id)
-  pub leaves : leavesAs (rowAt id .kind) id ≡ true
+  pub group : groupId id ≡ knownGroupTest id (rowNumber id)
+  pub setting-row : isSetting (rowAt id .kind) ≡ settingRow (groupId id) (rowNumber id)
   pub begins : isBegin (rowAt id .kind) ≡ eqb (rowNumber id) beginRow
   pub base : isBase id ≡ eqb (rowNumber id) baseRow
   pub apart : cond (groupId id) (isBase id) (isBegin (rowAt id .kind)) ≡ false
@@ -128,10 +110,9 @@ module _ (id : ℕ) where
       let t₂ = and-right (equal (rowMasks n) (masksOf r)) _ t₁ in
       let t₃ = and-right (eqb (length (r .more)) (cond (groupId id) 3 0)) _ t₂ in
       let t₄ = and-right (not (ruled id) || groupId id) _ t₃ in
-      let t₅ = and-right (same (groupId id) (knownGroupTest id)) _ t₄ in
-      let t₆ = and-right (same (isSetting (r .kind)) (leb (cond (groupId id) clipRow timerRow) n)) _ t₅ in
-      let t₇ = and-right (leavesAs (r .kind) id) _ t₆ in
-      let t₈ = and-right (same (isBegin (r .kind)) (eqb n beginRow)) _ t₇ in
+      let t₅ = and-right (same (groupId id) (knownGroupTest id n)) _ t₄ in
+      let t₆ = and-right (same (isSetting (r .kind)) (settingRow (groupId id) n)) _ t₅ in
+      let t₇ = and-right (same (isBegin (r .kind)) (eqb n beginRow)) _ t₆ in
       record {
         small = ltb-true n rowCount (and-right (eqb (r .id) id) _ p);
         found = e ∙ ap some (sym is);
@@ -139,12 +120,11 @@ module _ (id : ℕ) where
         masks = equal-true (rowMasks n) (masksOf r) (and-left (equal (rowMasks n) (masksOf r)) _ t₁) ∙ ap (λ (x : Row). masksOf x) (sym is);
         length-more = ap (λ (x : Row). length (x .more)) is ∙ eqb-true _ _ (and-left (eqb (length (r .more)) (cond (groupId id) 3 0)) _ t₂);
         one-word = unruled (ruled id) (groupId id) (and-left (not (ruled id) || groupId id) _ t₃);
-        group = same-true (groupId id) (knownGroupTest id) (and-left (same (groupId id) (knownGroupTest id)) _ t₄);
-        setting-row = ap (λ (x : Row). isSetting (x .kind)) is ∙ same-true (isSetting (r .kind)) (leb (cond (groupId id) clipRow timerRow) n) (and-left (same (isSetting (r .kind)) (leb (cond (groupId id) clipRow timerRow) n)) _ t₅);
-        leaves = ap (λ (x : Row). leavesAs (x .kind) id) is ∙ and-left (leavesAs (r .kind) id) _ t₆;
-        begins = ap (λ (x : Row). isBegin (x .kind)) is ∙ same-true (isBegin (r .kind)) (eqb n beginRow) (and-left (same (isBegin (r .kind)) (eqb n beginRow)) _ t₇);
-        base = same-true (isBase id) (eqb n baseRow) (and-left (same (isBase id) (eqb n baseRow)) _ t₈);
-        apart = ap (λ (x : Row). cond (groupId id) (isBase id) (isBegin (x .kind))) is ∙ not-true (cond (groupId id) (isBase id) (isBegin (r .kind))) (and-right (same (isBase id) (eqb n baseRow)) _ t₈);
+        group = same-true (groupId id) (knownGroupTest id n) (and-left (same (groupId id) (knownGroupTest id n)) _ t₄);
+        setting-row = ap (λ (x : Row). isSetting (x .kind)) is ∙ same-true (isSetting (r .kind)) (settingRow (groupId id) n) (and-left (same (isSetting (r .kind)) (settingRow (groupId id) n)) _ t₅);
+        begins = ap (λ (x : Row). isBegin (x .kind)) is ∙ same-true (isBegin (r .kind)) (eqb n beginRow) (and-left (same (isBegin (r .kind)) (eqb n beginRow)) _ t₆);
+        base = same-true (isBase id) (eqb n baseRow) (and-left (same (isBase id) (eqb n baseRow)) _ t₇);
+        apart = ap (λ (x : Row). cond (groupId id) (isBase id) (isBegin (x .kind))) is ∙ not-true (cond (groupId id) (isBase id) (isBegin (r .kind))) (and-right (same (isBase id) (eqb n baseRow)) _ t₇);
       }
 
   by-row : (o : Option Row) → rowOf id ≡ o → rowFits id o ≡ true → rowNumber id < rowCount → Known id
@@ -179,17 +159,25 @@ module _ (id : ℕ) where
     row-at l e = ap (λ (m : List ℕ). getD m id 0) e ∙ tabulate-from 256 0 rowNumber id h ∙ ap rowNumber (zero-add id)
 
     -- every id, known or not
-    pub begin-is : beginTest id ≡ beginId id
+    headers : (same (beginId id) (beginTest id) && same (keptId id) (keptTest id)) ≡ true
     unfolding idFits
-    begin-is = sym (same-true (beginId id) (beginTest id) (and-left (same (beginId id) (beginTest id)) _ tests))
+    headers = and-left (same (beginId id) (beginTest id) && same (keptId id) (keptTest id)) _ tests
+
+    sizes : (eqb (settingKind id) (kindTest id) && same (groupId id) (inSet groups id)) ≡ true
+    unfolding idFits
+    sizes = and-right (same (beginId id) (beginTest id) && same (keptId id) (keptTest id)) _ tests
+
+    pub begin-is : beginTest id ≡ beginId id
+    begin-is = sym (same-true (beginId id) (beginTest id) (and-left (same (beginId id) (beginTest id)) _ headers))
+
+    pub kept-is : keptTest id ≡ keptId id
+    kept-is = sym (same-true (keptId id) (keptTest id) (and-right (same (beginId id) (beginTest id)) _ headers))
 
     pub kind-is : kindTest id ≡ settingKind id
-    unfolding idFits
-    kind-is = sym (eqb-true _ _ (and-left (eqb (settingKind id) (kindTest id)) _ (and-right (same (beginId id) (beginTest id)) _ tests)))
+    kind-is = sym (eqb-true _ _ (and-left (eqb (settingKind id) (kindTest id)) _ sizes))
 
-    pub group-is : groupTest id ≡ groupId id
-    unfolding idFits
-    group-is = sym (same-true (groupId id) (groupTest id) (and-right (eqb (settingKind id) (kindTest id)) _ (and-right (same (beginId id) (beginTest id)) _ tests)))
+    pub group-is : inSet groups id ≡ groupId id
+    group-is = sym (same-true (groupId id) (inSet groups id) (and-right (eqb (settingKind id) (kindTest id)) _ sizes))
 
 pub row-is : (id : ℕ) (r : Row) → rowOf id ≡ some r → rowAt id ≡ r
 unfolding rowAt

@@ -3,61 +3,47 @@ use Prim.Native.Nat.{ℕ, zero, suc, _+_, _*_, _/_, _%_}
 use mathlib.Core.Bool.{Bool, false, cond, _||_}
 use mathlib.Core.List.{List, [], _∷_}
 use mathlib.Core.Option.{Option, none, some}
-use lib.Dec.{eqb}
+use lib.Dec.{eqb, leb}
 use lib.ListN.{getD}
 use Rattle.rules.specs.Word.{headerOf}
-use Rattle.rules.specs.Table.{Row, plain, rowOf}
+use Rattle.rules.specs.Table.{Line, lines, plain, Row, rowWith, rowOf}
 use Rattle.table.specs.declared.Group.{Group}
-
--- the ids of each row: work and settings of one word, work and settings of four
-abbrev pub rowIds : List (List ℕ)
-rowIds =
-    (0x00 ∷ [])
-    ∷ (0x01 ∷ [])
-    ∷ (0x05 ∷ [])
-    ∷ (0x20 ∷ 0x22 ∷ 0x24 ∷ [])
-    ∷ (0x21 ∷ 0x23 ∷ 0x25 ∷ [])
-    ∷ (0x02 ∷ [])
-    ∷ (0x26 ∷ [])
-    ∷ (0x30 ∷ 0x31 ∷ [])
-    ∷ (0x08 ∷ 0x0C ∷ 0x10 ∷ 0x14 ∷ [])
-    ∷ (0x40 ∷ [])
-    ∷ (0x48 ∷ [])
-    ∷ (0x84 ∷ [])
-    ∷ (0x88 ∷ [])
-    ∷ (0x8C ∷ [])
-    ∷ (0x90 ∷ [])
-    ∷ (0xC4 ∷ [])
-    ∷ []
 
 -- how many rows there are
 abbrev pub rowCount : ℕ
 rowCount = 16
 
--- the rows that are asked for by number: the surface bases, the first setting of one word, BEGIN, the first of four
-abbrev pub baseRow : ℕ
-baseRow = 4
-
+-- the rows that are asked for by number: of one word the settings and the surface bases, of four BEGIN and the first setting
 abbrev pub timerRow : ℕ
-timerRow = 5
+timerRow = 2
 
 abbrev pub beginRow : ℕ
-beginRow = 8
+beginRow = 4
+
+abbrev pub baseRow : ℕ
+baseRow = 6
+
+abbrev pub extendedRow : ℕ
+extendedRow = 7
 
 abbrev pub clipRow : ℕ
 clipRow = 11
+
+-- a setting by its row, of a command of four words and of one
+abbrev pub settingRow : Bool → ℕ → Bool
+settingRow group row = cond group (leb clipRow row) (eqb row timerRow || leb extendedRow row)
 
 abbrev pub has : List ℕ → ℕ → Bool
 has [] id = false
 has (i ∷ is) id = eqb i id || has is id
 
-abbrev pub rowIn : List (List ℕ) → ℕ → ℕ
+abbrev pub rowIn : List Line → ℕ → ℕ
 rowIn [] id = zero
-rowIn (ids ∷ rest) id = cond (has ids id) zero (suc (rowIn rest id))
+rowIn (l ∷ ls) id = cond (has (l .ids) id) zero (suc (rowIn ls id))
 
 -- the number of the row that has an id, `rowCount` where none has
 unfoldable pub rowNumber : ℕ → ℕ
-rowNumber id = rowIn rowIds id
+rowNumber id = rowIn lines id
 
 -- what a rule gives for the n numbers from i on
 abbrev pub tabulate : ℕ → ℕ → (ℕ → ℕ) → List ℕ
@@ -86,8 +72,7 @@ masksOf r = maskOf r 0 ∷ maskOf r 1 ∷ maskOf r 2 ∷ maskOf r 3 ∷ []
 
 -- the mask of a word by the number of the row
 unfoldable pub maskAt : ℕ → ℕ → ℕ
-unfolding rowAt
-maskAt row word = maskOf (rowAt (getD (getD rowIds row []) 0 0)) word
+maskAt row word = maskOf (rowWith (getD lines row (record { ids = []; mask = 0; more = []; kind = plain })) 0) word
 
 abbrev pub rowMasks : ℕ → List ℕ
 rowMasks row = maskAt row 0 ∷ maskAt row 1 ∷ maskAt row 2 ∷ maskAt row 3 ∷ []
@@ -101,6 +86,9 @@ maskTable = tabulate (rowCount * 4) 0 (λ i. maskAt (i / 4) (i % 4))
 abbrev pub more : Group → List ℕ
 more g = g .second ∷ g .third ∷ g .fourth ∷ []
 
+abbrev pub group : ℕ → ℕ → ℕ → ℕ → Group
+group h a b c = record { header = h; second = a; third = b; fourth = c }
+
 -- the group whose first word stands at a position of a list
 abbrev pub groupAt : List ℕ → ℕ → Group
-groupAt l at = record { header = headerOf (getD l at 0); second = getD l (at + 1) 0; third = getD l (at + 2) 0; fourth = getD l (at + 3) 0 }
+groupAt l at = group (headerOf (getD l at 0)) (getD l (at + 1) 0) (getD l (at + 2) 0) (getD l (at + 3) 0)

@@ -3,8 +3,9 @@
 // The table of rows is made once for a whole list and lent: a `const` array is built again at each use.
 ghost use mathlib.Core.Path.{_≡_};
 ghost use lib.ListN.{replicate};
-ghost use Rattle.table.specs.Ids.{beginId, settingKind, settingId, groupId};
-ghost use Rattle.table.specs.Tables.{rowCount, rowTable};
+ghost use Rattle.table.specs.Ids.{inSet, beginId, keptId, settingKind, settingId, groupId};
+ghost use Rattle.table.specs.Tables.{rowCount, rowNumber, rowTable};
+ghost use Prim.Native.Nat.{_<_};
 
 // The own words of a command of four words: the header, and the next three words.
 pub struct Group {
@@ -16,39 +17,17 @@ pub struct Group {
 
 // ---- rows
 
-// The rows of document 01's table, ordered so that the kinds are ranges: work and settings of one word, work and settings
-// of four.
-pub const FLUSH: u8 = 0;
+// The rows of document 01's table have numbers, from 0 on in its order. Those that are asked for by number:
+pub const TIMER: u8 = 2;
 
-pub const RESET: u8 = 1;
+pub const BEGIN: u8 = 4;
 
-pub const TRIGGER: u8 = 2;
+pub const SURFACE_BASE: u8 = 6;
 
-pub const SURFACE_CONTROL: u8 = 3;
+pub const EXTENDED_BASE: u8 = 7;
 
-pub const SURFACE_BASE: u8 = 4;
-
-pub const TIMER: u8 = 5;
-
-pub const EXTENDED_BASE: u8 = 6;
-
-pub const OVERFLOW: u8 = 7;
-
-pub const BEGIN: u8 = 8;
-
-pub const LOAD: u8 = 9;
-
-pub const PRIMITIVE: u8 = 10;
-
+// The first setting of four words: all rows behind it are such.
 pub const WINDOW_CLIP: u8 = 11;
-
-pub const RASTER_MODE: u8 = 12;
-
-pub const POLYGON_OFFSET: u8 = 13;
-
-pub const DEPTH: u8 = 14;
-
-pub const LOD_BIAS: u8 = 15;
 
 // How many rows there are.
 pub const ROWS: u8 = 16;
@@ -62,38 +41,42 @@ pub fn fill_rows(rows: &mut [u8; 256])
     requires { ⌜ now rows ≡ replicate 256 rowCount ⌝ }
     ensures { λ _. ⌜ now (rows .exit) ≡ rowTable ⌝ }
 {
-    rows[0x00] = FLUSH;
-    rows[0x01] = RESET;
-    rows[0x02] = TIMER;
-    rows[0x05] = TRIGGER;
-    rows[0x08] = BEGIN;
-    rows[0x0C] = BEGIN;
-    rows[0x10] = BEGIN;
-    rows[0x14] = BEGIN;
-    rows[0x20] = SURFACE_CONTROL;
-    rows[0x21] = SURFACE_BASE;
-    rows[0x22] = SURFACE_CONTROL;
-    rows[0x23] = SURFACE_BASE;
-    rows[0x24] = SURFACE_CONTROL;
-    rows[0x25] = SURFACE_BASE;
-    rows[0x26] = EXTENDED_BASE;
-    rows[0x30] = OVERFLOW;
-    rows[0x31] = OVERFLOW;
-    rows[0x40] = LOAD;
-    rows[0x48] = PRIMITIVE;
-    rows[0x84] = WINDOW_CLIP;
-    rows[0x88] = RASTER_MODE;
-    rows[0x8C] = POLYGON_OFFSET;
-    rows[0x90] = DEPTH;
-    rows[0xC4] = LOD_BIAS;
+    rows[0x00] = 0;
+    rows[0x01] = 1;
+    rows[0x02] = 2;
+    rows[0x05] = 3;
+    rows[0x08] = 4;
+    rows[0x0C] = 4;
+    rows[0x10] = 4;
+    rows[0x14] = 4;
+    rows[0x20] = 5;
+    rows[0x22] = 5;
+    rows[0x24] = 5;
+    rows[0x21] = 6;
+    rows[0x23] = 6;
+    rows[0x25] = 6;
+    rows[0x26] = 7;
+    rows[0x30] = 8;
+    rows[0x31] = 8;
+    rows[0x40] = 9;
+    rows[0x48] = 10;
+    rows[0x84] = 11;
+    rows[0x88] = 12;
+    rows[0x8C] = 13;
+    rows[0x90] = 14;
+    rows[0xC4] = 15;
 }
 
 // ---- ids: each function is right for every id, unknown ones included
 
-pub fn is_begin(id: u8) -> bool
-    ensures { λ r. ⌜ r ≡ beginId id ⌝ }
+// An id of a set of ids that are multiples of four: bit n of the set is id 4n.
+fn in_set(set: u64, id: u8) -> bool
+    ensures { λ r. ⌜ r ≡ inSet set id ⌝ }
 {
-    ((id == 0x08) | (id == 0x0C)) | ((id == 0x10) | (id == 0x14))
+    if id % 4 != 0 {
+        return false;
+    }
+    (set >> ((id / 4) as u32)) % 2 == 1
 }
 
 // The set of the settings' ids, by kind: none of them, one of one word, or one of four.
@@ -106,14 +89,14 @@ impl Settings {
 
     pub const GROUP: u32 = 2;
 
+    // 84, 88, 8C, 90 and C4, as the bits 33 to 36 and 49.
+    const GROUPS: u64 = 0x0002001E00000000;
+
     pub fn kind(id: u8) -> u32
         ensures { λ r. ⌜ r ≡ settingKind id ⌝ }
     {
-        if 0x84 <= id {
-            if (((id == 0x84) | (id == 0x88)) | ((id == 0x8C) | (id == 0x90))) | (id == 0xC4) {
-                return Settings::GROUP;
-            }
-            return Settings::NONE;
+        if in_set(Settings::GROUPS, id) {
+            return Settings::GROUP;
         }
         if ((id == 0x02) | (id == 0x26)) | ((id == 0x30) | (id == 0x31)) {
             return Settings::SINGLE;
@@ -128,12 +111,39 @@ impl Settings {
     }
 }
 
+// The groups that are work: the four BEGIN, LOAD_GP and the primitive.
+const WORK_GROUPS: u64 = 0x000000000005003C;
+
+const GROUPS: u64 = WORK_GROUPS + Settings::GROUPS;
+
 // An id whose command has four words of its own.
 pub fn is_group(id: u8) -> bool
     ensures { λ r. ⌜ r ≡ groupId id ⌝ }
 {
-    if 0x40 <= id {
-        return ((id == 0x40) | (id == 0x48)) | (Settings::kind(id) == Settings::GROUP);
-    }
-    is_begin(id)
+    in_set(GROUPS, id)
+}
+
+// The same of a known id with its row, a faster test: the known ids from 40 on and BEGIN.
+pub fn is_known_group(id: u8, row: u8) -> bool
+    requires { ⌜ (row ≡ rowNumber id) × (row < rowCount) ⌝ }
+    ensures { λ r. ⌜ r ≡ groupId id ⌝ }
+{
+    (0x40 <= id) | (row == BEGIN)
+}
+
+pub fn is_begin(id: u8) -> bool
+    ensures { λ r. ⌜ r ≡ beginId id ⌝ }
+{
+    ((id == 0x08) | (id == 0x0C)) | ((id == 0x10) | (id == 0x14))
+}
+
+// 05, the four BEGIN and 20 to 25: bit n is id n.
+const KEPT: u64 = 0x0000003F00111120;
+
+// An id of a work command that leaves its header in the image.
+pub fn keeps_header(id: u8) -> bool
+    ensures { λ r. ⌜ r ≡ keptId id ⌝ }
+{
+    let bit = (KEPT >> ((id % 64) as u32)) % 2 == 1;
+    (id < 64) & bit
 }

@@ -14,12 +14,12 @@ use Rattle.rules.specs.Word.{idOf, headerOf}
 use Rattle.rules.specs.Table.{Kind, setting, plain, keeps, begins, Row, rowOf, isSetting, isBegin, size, settings}
 use Rattle.rules.specs.Command.{Command, words, wordsAll}
 use Rattle.rules.specs.Image.{leave, apply, final}
-use Rattle.rules.specs.Walk.{Order, outOfOrder, orderAfter, accepted, parse}
+use Rattle.rules.specs.Walk.{Order, orderAtStart, orderFaults, orderAfter, accepted, parse}
 use Rattle.rules.specs.Effect.{Work, works, Effect, effect}
 use Rattle.rules.specs.Form.{read, equal, same, emit, differing, formFrom, form}
 use Rattle.theory.proofs.Image.{equal-refl, length-read}
 use Rattle.theory.proofs.Rows.{Setting, settings-apart, AllSettings, settings-all, setting-base, sizeAt, setting-once}
-use Rattle.rules.specs.Valid.{Valid, AllValid, InOrder, Accepted}
+use Rattle.rules.specs.Valid.{NoFault, Valid, AllValid, InOrder, Accepted}
 use Rattle.theory.proofs.Valid.{setting-length, valid-setting}
 use Rattle.theory.proofs.Parse.{parse-accepted, parse-words}
 use Rattle.theory.proofs.Differing.{length-apply, final-append, Near, near-refl, near-setting, setting-other, flush, differing-none}
@@ -190,17 +190,18 @@ form-valid = by-cases (λ fi im cs. AllValid (formFrom fi im cs))
 
 -- the law of settings: they are all in order where one is, and one in order leaves what the rules on order need as it is
 SettingsFit : Order → Type 0
-SettingsFit o = (c : Command) (im : List ℕ) → Setting (c .row) → (outOfOrder (record { order = o; image = im }) c ≡ none) × (orderAfter o c ≡ o)
+SettingsFit o = (c : Command) (im : List ℕ) → Setting (c .row) → NoFault (orderFaults (record { order = o; image = im }) c) × (orderAfter o c ≡ o)
 
-setting-kind : (b : Bool) (k : Kind) → k ≡ setting → cond {A = Option ℕ} (b && not (isBegin k)) (some 10) none ≡ none → b ≡ false
-setting-kind true k e f = let g : cond {A = Option ℕ} (not (isBegin setting)) (some 10) none ≡ none = rw e at f in cc
-setting-kind false k e f = refl
+and-one : (b : Bool) → (b && true) ≡ false → b ≡ false
+and-one true e = e
+and-one false e = refl
 
-setting-order : (o : Order) (im : List ℕ) (c : Command) → Setting (c .row) → outOfOrder (record { order = o; image = im }) c ≡ none → SettingsFit o
-unfolding SettingsFit outOfOrder orderAfter
+setting-order : (o : Order) (im : List ℕ) (c : Command) → Setting (c .row) → NoFault (orderFaults (record { order = o; image = im }) c) → SettingsFit o
+unfolding SettingsFit orderFaults orderAfter
 setting-order o im c s e d jm t =
-    let off : o .flip ≡ false = setting-kind (o .flip) (c .row .kind) (s .kind) e in
-    (rw off, ap (λ (b : Bool). record { flip = b }) (setting-base (d .row) t ∙ sym off))
+    let k : isBegin (c .row .kind) ≡ false = ap isBegin (s .kind) in
+    let off : o .flip ≡ false = and-one (o .flip) (rw k at (e .0)) in
+    (rw off (refl, tt), ap (λ (b : Bool). record { flip = b }) (setting-base (d .row) t ∙ sym off))
 
 quiet-order : (o : Order) → SettingsFit o → (im : List ℕ) (qs cs : List Command) → Quiet qs → InOrder (record { order = o; image = final im qs }) cs
     → InOrder (record { order = o; image = im }) (qs ++ cs)
@@ -335,7 +336,7 @@ module _ (im ws : List ℕ) (cs : List Command) (e : parse im ws ≡ accepted cs
   pub form-accepted : parse im (wordsAll (form im cs)) ≡ accepted (form im cs)
   form-accepted =
       parse-words im (form im cs) (omega (arith, form-fits, a .few)) (a .whole)
-      (form-valid im im cs n (a .parses .valid)) (form-order im im cs n (a .parses .valid) (record { flip = false }) (inr refl) (a .parses .ordered))
+      (form-valid im im cs n (a .parses .valid)) (form-order im im cs n (a .parses .valid) orderAtStart (inr refl) (a .parses .ordered))
 
   pub form-same : effect im (form im cs) ≡ effect im cs
   form-same = ap₂ {C = Effect} (λ d l. record { done = d; left = l }) (form-works im im cs n (a .parses .valid)) (form-final im im cs n (a .parses .valid))

@@ -14,11 +14,12 @@ use lib.ListN.{length, take, drop, take-append-drop}
 use Rattle.rules.specs.Word.{idOf, headerOf, firstWord}
 use Rattle.rules.specs.Table.{Row, table, find, rowOf}
 use Rattle.rules.specs.Command.{Command, wordsAll, restSize, sizeOf, commandSize}
+use Rattle.rules.specs.declared.Refusal.{Refusal}
 use Rattle.rules.specs.Decode.{Decoded, bad, good, decodeKnown, decode}
-use Rattle.rules.specs.Walk.{State, start, outOfOrder, next, Step, stop, took, inOrder, stepDecoded, step, Parsed, refused, accepted, andThen, onward, walk, sized, parse}
+use Rattle.rules.specs.Walk.{State, start, orderFaults, next, Step, stop, took, stepDecoded, step, Parsed, refused, accepted, andThen, onward, walk, sized, parse}
 use Rattle.theory.proofs.Rows.{found-step}
-use Rattle.rules.specs.Valid.{Valid, AllValid, InOrder, Parses, Accepted}
-use Rattle.theory.proofs.Valid.{passed, passed-length, passed-valid, valid-passes}
+use Rattle.rules.specs.Valid.{NoFault, Valid, AllValid, InOrder, Parses, Accepted}
+use Rattle.theory.proofs.Valid.{none-told, no-faults, passed, passed-length, passed-valid, valid-passes}
 
 found-id : (rows : List Row) (i : ℕ) (r : Row) → find i rows ≡ some r → r .id ≡ i
 found-id [] i r e = cc
@@ -70,30 +71,36 @@ decode-words c tail v = rw (high (c .row .id) 24 (v .small), v .found, low (c .r
 pub record Took (s : State) (w : ℕ) (ws : List ℕ) (c : Command) (t : State) : Type 0 where
   pub decoded : decode w ws ≡ good c
   pub read : Read w ws c
-  pub ordered : outOfOrder s c ≡ none
+  pub ordered : NoFault (orderFaults s c)
   pub after : t ≡ next s c
 
 module _ (s : State) (w : ℕ) (ws : List ℕ) (c : Command) (t : State) where
-  order-took : (d : Command) → decode w ws ≡ good d → (o : Option ℕ) → outOfOrder s d ≡ o → inOrder o d (next s d) ≡ took c t → Took s w ws c t
-  order-took d ed (some m) eo e = let z : _≡_ {A = ℕ} 0 1 = cc in absurd (omega arith)
-  order-took d ed none eo e =
+  no-took : (f : Refusal) → stop f ≡ took c t → ⊥
+  no-took f e = let z : _≡_ {A = ℕ} 0 1 = cc in omega arith
+
+  decoded-took : (x : Decoded) → decode w ws ≡ x → stepDecoded s x ≡ took c t → Took s w ws c t
+  decoded-took (bad f) ed e = absurd (no-took f e)
+  decoded-took (good d) ed e =
+      let p = none-told stop (took c t) no-took (orderFaults s d) (took d (next s d)) e in
+      let q = p .0 in
       let ec : d ≡ c = cc in
       let et : next s d ≡ t = cc in
       let dec : decode w ws ≡ good c = ed ∙ ap good ec in
-      record { decoded = dec; read = decode-read w ws c dec; ordered = ap (outOfOrder s) (sym ec) ∙ eo; after = sym et ∙ ap (next s) ec }
-
-  decoded-took : (x : Decoded) → decode w ws ≡ x → stepDecoded s x ≡ took c t → Took s w ws c t
-  decoded-took (bad f) ed e = let z : _≡_ {A = ℕ} 0 1 = cc in absurd (omega arith)
-  decoded-took (good d) ed e = order-took d ed _ refl e
+      record {
+        decoded = dec;
+        read = decode-read w ws c dec;
+        ordered = subst (λ (x : Command). NoFault (orderFaults s x)) ec (p .1);
+        after = sym et ∙ ap (next s) ec;
+      }
 
   pub step-took : step s w ws ≡ took c t → Took s w ws c t
   unfolding step
   step-took e = decoded-took _ refl e
 
-pub step-words : (s : State) (c : Command) (tail : List ℕ) → Valid c → outOfOrder s c ≡ none
+pub step-words : (s : State) (c : Command) (tail : List ℕ) → Valid c → NoFault (orderFaults s c)
     → step s (firstWord (c .row .id) (c .header)) (c .rest ++ tail) ≡ took c (next s c)
 unfolding step
-step-words s c tail v eo = rw (decode-words c tail v, eo)
+step-words s c tail v n = rw (decode-words c tail v) (no-faults stop (orderFaults s c) (took c (next s c)) n)
 
 onward-parses : (s : State) (p w : ℕ) (ws : List ℕ) (go : State → ℕ → Parsed) (all : List Command)
     (ih : (t : State) (k : ℕ) (cs : List Command) → go t k ≡ accepted cs → k ≤ length ws → Parses t (drop k ws) cs)

@@ -13,12 +13,12 @@ use lib.ListN.{length, getD, take, length-take}
 use lib.Seq.{getD-take}
 use Rattle.rules.specs.declared.Refusal.{Refusal}
 use Rattle.rules.specs.Word.{idOf, headerOf, lowestUndefined, undefined, LowestUndefinedAt}
-use Rattle.rules.specs.Table.{Row, rowOf, isBegin}
+use Rattle.rules.specs.Table.{Row, rowOf}
 use Rattle.rules.specs.Command.{Command, moreMasks, ownSize, restSize, sizeOf, commandSize}
 use Rattle.rules.specs.Place.{ownMasks, wordMask}
-use Rattle.rules.specs.Values.{refusal, undefinedBit, shift, Fault, undefinedFaults, valueFaults, loadFaults, primitiveFaults, clipFaults, rasterFaults, faults}
-use Rattle.rules.specs.Decode.{Decoded, bad, good, firstFault, decodeKnown, decodeRow, decode}
-use Rattle.rules.specs.Walk.{State, start, outOfOrder, next, Step, stop, took, inOrder, stepDecoded, step, Parsed, refused, accepted, walk, sized, parse}
+use Rattle.rules.specs.Values.{refusal, undefinedBit, shift, Fault, firstFault, undefinedFaults, valueFaults, loadFaults, primitiveFaults, clipFaults, rasterFaults, faults}
+use Rattle.rules.specs.Decode.{Decoded, bad, good, decodeKnown, decodeRow, decode}
+use Rattle.rules.specs.Walk.{State, start, orderFaults, next, Step, stop, took, stepDecoded, step, Parsed, refused, accepted, walk, sized, parse}
 use Rattle.rules.specs.Pci.{address, values, Inside, begun, further, ended, misplaced, outside, unless, parsePairs}
 use Rattle.theory.proofs.Bools.{and-left, and-right}
 use Rattle.theory.proofs.Rows.{row-mask}
@@ -50,7 +50,7 @@ OfUndefined P masks words =
     (k : ℕ) → k < length masks → k < length words → undefined (getD words k 0) (getD masks k 0) ≡ true
     → P (undefinedBit k (getD words k 0) (getD masks k 0))
 
--- the faults of values name no bit: one test
+-- the faults of values and of order name no bit: one test
 valueFault : Fault → Bool
 valueFault f = otherThanSix (f .why .number) && (leb (f .why .word) 3 && eqb (f .why .bit) 32)
 
@@ -101,22 +101,28 @@ module _ (P : Refusal → Type 0) (others : (n w : ℕ) → otherThanSix n ≡ t
         of-tested fs (and-right (valueFault f) _ t),
       )
 
+  pub of-values : (id h : ℕ) (own : List ℕ) → OfFaults P (valueFaults id h own)
+  unfolding valueFaults
+  of-values id h own =
+      of-tested (valueFaults id h own) (value-test (eqb id 0x40) (eqb id 0x48) (eqb id 0x84) (eqb id 0x88) h (getD own 0 0) (getD own 1 0) (getD own 2 0))
+
   pub of-faults : (r : Row) (h : ℕ) (own : List ℕ) → OfUndefined P (r .mask ∷ moreMasks r h) (h ∷ own) → OfFaults P (faults r h own)
-  unfolding faults valueFaults
+  unfolding faults
   of-faults r h own six =
       of-append (undefinedFaults 0 (r .mask ∷ moreMasks r h) (h ∷ own)) (valueFaults (r .id) h own)
       (of-undefined 0 (r .mask ∷ moreMasks r h) (h ∷ own) (λ k a b e. rw (zero-add k) (six k a b e)))
-      (of-tested (valueFaults (r .id) h own)
-      (value-test (eqb (r .id) 0x40) (eqb (r .id) 0x48) (eqb (r .id) 0x84) (eqb (r .id) 0x88) h (getD own 0 0) (getD own 1 0) (getD own 2 0)))
+      (of-values (r .id) h own)
 
   -- ---- one command
 
-  of-first : (fs : List Fault) (d : Decoded) → OfFaults P fs → OfDecoded P d → OfDecoded P (firstFault fs d)
-  of-first [] d p q = q
-  of-first (f ∷ fs) d p q =
-      (elim (f .found) as (λ t. f .found ≡ t → OfDecoded P (cond t (bad (f .why)) (firstFault fs d))) [
-        | true ↦ λ e. p .0 e
-        | false ↦ λ e. of-first fs d (p .1) q
+  -- what holds of each refusal told, and of what follows, holds of the first fault
+  of-first : {A : Type 0} (Q : A → Type 0) (refuse : Refusal → A) → ((f : Refusal) → P f → Q (refuse f)) → (fs : List Fault) (d : A)
+      → OfFaults P fs → Q d → Q (firstFault refuse fs d)
+  of-first Q refuse h [] d p q = q
+  of-first Q refuse h (f ∷ fs) d p q =
+      (elim (f .found) as (λ t. f .found ≡ t → Q (cond t (refuse (f .why)) (firstFault refuse fs d))) [
+        | true ↦ λ e. h (f .why) (p .0 e)
+        | false ↦ λ e. of-first Q refuse h fs d (p .1) q
       ]) refl
 
   of-cond : (b : Bool) (d e : Decoded) → OfDecoded P d → OfDecoded P e → OfDecoded P (cond b d e)
@@ -133,8 +139,8 @@ module _ (P : Refusal → Type 0) (others : (n w : ℕ) → otherThanSix n ≡ t
       let all : ℕ = restSize r h ws in
       let c : Command = record { row = r; header = h; rest = take all ws } in
       let whole : Decoded = cond (ltb (length ws) all) (bad (refusal 9 0)) (good c) in
-      of-cond (ltb (length ws) own) (bad (refusal 5 0)) (firstFault (faults r h (take own ws)) whole) (first-word 5 refl)
-      (of-first (faults r h (take own ws)) whole (of-faults r h (take own ws) six)
+      of-cond (ltb (length ws) own) (bad (refusal 5 0)) (firstFault bad (faults r h (take own ws)) whole) (first-word 5 refl)
+      (of-first (OfDecoded P) bad (λ f p. p) (faults r h (take own ws)) whole (of-faults r h (take own ws) six)
       (of-cond (ltb (length ws) all) (bad (refusal 9 0)) (good c) (first-word 9 refl) tt))
 
   of-unknown : (b : Bool) → P (refusal (cond b 4 3) 0)
@@ -147,14 +153,10 @@ module _ (P : Refusal → Type 0) (others : (n w : ℕ) → otherThanSix n ≡ t
     of-known none e = of-unknown (eqb (idOf w) 3 || eqb (idOf w) 4)
     of-known (some r) e = of-row r (headerOf w) ws (six r e)
 
-    of-order : (b : Bool) (c : Command) (t : State) → OfStep P (inOrder (cond b (some 10) none) c t)
-    of-order true c t = first-word 10 refl
-    of-order false c t = tt
-
     of-decoded : (s : State) (d : Decoded) → OfDecoded P d → OfStep P (stepDecoded s d)
-    unfolding outOfOrder
+    unfolding orderFaults allValue valueFault
     of-decoded s (bad f) p = p
-    of-decoded s (good c) p = of-order (s .order .flip && not (isBegin (c .row .kind))) c (next s c)
+    of-decoded s (good c) p = of-first (OfStep P) stop (λ f q. q) (orderFaults s c) (took c (next s c)) (of-tested (orderFaults s c) refl) tt
 
     of-step : (s : State) (f : Refusal) → step s w ws ≡ stop f → P f
     unfolding step decode

@@ -151,13 +151,9 @@ abbrev pub AllSettings : List Row → Type 0
 AllSettings [] = Unit {0}
 AllSettings (r ∷ rs) = Setting r × AllSettings rs
 
-a : (r : Row) → rowOf (r .id) ≡ some r → r .kind ≡ setting → Setting r
-a r p q = record { found = p; kind = q }
-
 pub settings-all : AllSettings settings
 unfolding settings table rowOf
-settings-all =
-    (a _ refl refl, (a _ refl refl, (a _ refl refl, (a _ refl refl, (a _ refl refl, (a _ refl refl, (a _ refl refl, (a _ refl refl, (a _ refl refl, tt)))))))))
+settings-all = search tt
 
 -- each setting stands once in the list of settings
 unfoldable pub sizeAt : ℕ → List Row → ℕ

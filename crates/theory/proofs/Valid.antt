@@ -14,25 +14,27 @@ use Rattle.rules.specs.Word.{firstWord}
 use Rattle.rules.specs.Table.{setting, Row, rowOf}
 use Rattle.rules.specs.Command.{Command, payload, ownSize, restSize, commandSize}
 use Rattle.rules.specs.declared.Refusal.{Refusal}
-use Rattle.rules.specs.Values.{refusal, Fault, faults}
-use Rattle.rules.specs.Decode.{Decoded, bad, good, firstFault, decodeRow}
+use Rattle.rules.specs.Values.{refusal, Fault, firstFault, faults}
+use Rattle.rules.specs.Decode.{Decoded, bad, good, decodeRow}
 use Rattle.rules.specs.Valid.{NoFault, Valid}
 use Rattle.theory.proofs.Rows.{Setting, setting-payload}
 
-cond-good : (b : Bool) (f : Refusal) (d : Decoded) (c : Command) → cond b (bad f) d ≡ good c → (b ≡ false) × (d ≡ good c)
-cond-good true f d c e = (cc, cc)
-cond-good false f d c e = (refl, e)
+cond-else : {A : Type 0} (b : Bool) (x d y : A) → (x ≡ y → ⊥) → cond b x d ≡ y → (b ≡ false) × (d ≡ y)
+cond-else true x d y n e = absurd (n e)
+cond-else false x d y n e = (refl, e)
 
-good-faults : (fs : List Fault) (d : Decoded) (c : Command) → firstFault fs d ≡ good c → (d ≡ good c) × NoFault fs
-good-faults [] d c e = (e, tt)
-good-faults (f ∷ fs) d c e =
-    let p = cond-good (f .found) (f .why) (firstFault fs d) c e in
-    let ih = good-faults fs d c (p .1) in
+-- where no refusal is told, there is no fault
+pub none-told : {A : Type 0} (refuse : Refusal → A) (y : A) → ((f : Refusal) → refuse f ≡ y → ⊥) → (fs : List Fault) (d : A)
+    → firstFault refuse fs d ≡ y → (d ≡ y) × NoFault fs
+none-told refuse y n [] d e = (e, tt)
+none-told refuse y n (f ∷ fs) d e =
+    let p = cond-else (f .found) (refuse (f .why)) (firstFault refuse fs d) y (n (f .why)) e in
+    let ih = none-told refuse y n fs d (p .1) in
     (ih .0, (p .0, ih .1))
 
-no-faults : (fs : List Fault) (d : Decoded) → NoFault fs → firstFault fs d ≡ d
-no-faults [] d n = refl
-no-faults (f ∷ fs) d n = rw (n .0) (no-faults fs d (n .1))
+pub no-faults : {A : Type 0} (refuse : Refusal → A) (fs : List Fault) (d : A) → NoFault fs → firstFault refuse fs d ≡ d
+no-faults refuse [] d n = refl
+no-faults refuse (f ∷ fs) d n = rw (n .0) (no-faults refuse fs d (n .1))
 
 -- only the own words say how many there are
 pub size-cong : (r : Row) (h : ℕ) (us ws : List ℕ) → take (ownSize r h) us ≡ take (ownSize r h) ws → restSize r h us ≡ restSize r h ws
@@ -53,17 +55,20 @@ pub record Passed (r : Row) (h : ℕ) (ws : List ℕ) (c : Command) : Type 0 whe
 pub passed : (r : Row) (h : ℕ) (ws : List ℕ) (c : Command) → decodeRow r h ws ≡ good c → Passed r h ws c
 unfolding decodeRow
 passed r h ws c e =
-    let p = cond-good (ltb (length ws) (ownSize r h)) (refusal 5 0) (firstFault (faults r h (take (ownSize r h) ws)) (whole r h ws)) c e in
-    let q = good-faults (faults r h (take (ownSize r h) ws)) (whole r h ws) c (p .1) in
-    let t = cond-good (ltb (length ws) (restSize r h ws)) (refusal 9 0) (good (taken r h ws)) c (q .0) in
+    let p = cond-else (ltb (length ws) (ownSize r h)) (bad (refusal 5 0)) (firstFault bad (faults r h (take (ownSize r h) ws)) (whole r h ws)) (good c) (no-good (refusal 5 0)) e in
+    let q = none-told bad (good c) no-good (faults r h (take (ownSize r h) ws)) (whole r h ws) (p .1) in
+    let t = cond-else (ltb (length ws) (restSize r h ws)) (bad (refusal 9 0)) (good (taken r h ws)) (good c) (no-good (refusal 9 0)) (q .0) in
     record { enough = ltb-false _ _ (t .0); is = cc; no-fault = q .1 }
+  where
+    no-good : (f : Refusal) → bad f ≡ good c → ⊥
+    no-good f x = let z : _≡_ {A = ℕ} 0 1 = cc in omega arith
 
 passes : (r : Row) (h : ℕ) (ws : List ℕ) → restSize r h ws ≤ length ws → NoFault (faults r h (take (ownSize r h) ws)) → decodeRow r h ws ≡ good (taken r h ws)
 unfolding decodeRow
 passes r h ws enough n =
     let a : ltb (length ws) (ownSize r h) ≡ false = le-ltb (length ws) (ownSize r h) (omega arith) in
     let b : ltb (length ws) (restSize r h ws) ≡ false = le-ltb (length ws) (restSize r h ws) enough in
-    rw a (no-faults (faults r h (take (ownSize r h) ws)) (whole r h ws) n ∙ rw b)
+    rw a (no-faults bad (faults r h (take (ownSize r h) ws)) (whole r h ws) n ∙ rw b)
 
 module _ (r : Row) (h : ℕ) (ws : List ℕ) (c : Command) (p : Passed r h ws c) where
   pub passed-length : length (c .rest) ≡ restSize r h ws

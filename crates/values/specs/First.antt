@@ -1,17 +1,16 @@
 -- The first fault of a command, as a refusal; number 0 where there is none.
 use mathlib.Core.Bool.{Bool, cond, not}
-use mathlib.Core.List.{List, [], _∷_}
+use mathlib.Core.List.{List}
 use lib.Dec.{eqb}
 use Rattle.rules.specs.declared.Refusal.{Refusal}
-use Rattle.rules.specs.Values.{refusal, Fault}
+use Rattle.rules.specs.Values.{refusal, Fault, firstFault}
 use Rattle.values.specs.declared.Faults.{Faults}
 
 abbrev pub noRefusal : Refusal
 noRefusal = refusal 0 0
 
 abbrev pub firstRefusal : List Fault → Refusal
-firstRefusal [] = noRefusal
-firstRefusal (f ∷ fs) = cond (f .found) (f .why) (firstRefusal fs)
+firstRefusal fs = firstFault (λ f. f) fs noRefusal
 
 -- there is one
 abbrev pub found : Refusal → Bool

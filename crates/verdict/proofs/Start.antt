@@ -2,13 +2,12 @@
 use Prim.Native.Nat.{ℕ, zero, suc, _+_, _-_, _≤_, _<_}
 use native.Mathlib.Omega.{arith}
 use mathlib.Core.Path.{_≡_, refl, _∙_}
-use mathlib.Core.Bool.{true, false}
 use mathlib.Core.List.{List, [], _∷_}
-use lib.Dec.{ltb}
 use lib.ListN.{length, drop, length-drop}
 use lib.Seq.{drop-cons, drop-drop}
-use borrow.Author.Tests.{ltb-true, ltb-false, eq-eqb, ne-eqb}
-use Rattle.command.specs.View.{sizeAt, Sized}
+use borrow.Author.Tests.{eq-eqb, ne-eqb}
+use Rattle.command.specs.View.{sizeAt}
+use Rattle.command.proofs.Sizes.{size-pos}
 use Rattle.rules.specs.Place.{startFrom}
 use Rattle.theory.proofs.Place.{inside}
 
@@ -36,25 +35,16 @@ module _ (p : ℕ) where
     unfolding startFrom
     start-here e = rw (drop-cons l at 0 (omega arith), eq-eqb at p e)
 
-    module _ (n : ℕ) (s : Sized l at n) (before : at < p) where
+    module _ (n : ℕ) (s : n ≡ sizeAt l at) (before : at < p) where
       step : from at ≡ startFrom p at (sizeAt l at - 1) (suc at) (drop (suc at) l)
       unfolding startFrom
       step = rw (drop-cons l at 0 (omega arith), ne-eqb at p (λ q. omega (arith, q)))
 
-      size-reaches : p < at + n → p < at + sizeAt l at
-      size-reaches r =
-          (elim (ltb (length l) (at + n)) as (λ t. ltb (length l) (at + n) ≡ t → p < at + sizeAt l at) [
-            | true ↦ λ e. omega (arith, s .beyond (ltb-true (length l) (at + n) e))
-            | false ↦ λ e. omega (arith, s .exact (ltb-false (length l) (at + n) e))
-          ]) refl
-
       pub start-inside : p - at < n → from at ≡ at
-      start-inside r =
-          step ∙ inside p at (sizeAt l at - 1) (suc at) (drop (suc at) l) (omega arith) (omega (arith, size-reaches (omega arith)))
+      start-inside r = step ∙ inside p at (sizeAt l at - 1) (suc at) (drop (suc at) l) (omega arith) (omega arith)
 
       pub start-beyond : n ≤ p - at → from at ≡ from (at + n)
       start-beyond r =
-          let e : n ≡ sizeAt l at = s .exact (omega arith) in
-          let k : suc at + (sizeAt l at - 1) ≡ at + n = omega (arith, e, s .some) in
+          let k : suc at + (sizeAt l at - 1) ≡ at + n = omega (arith, size-pos l at n s) in
           step ∙ beyond at (sizeAt l at - 1) (suc at) (drop (suc at) l) (omega (arith, k))
           ∙ rw (drop-drop (sizeAt l at - 1) (suc at) l, k) (begins at 0 (at + n) (drop (at + n) l) (λ z. omega (arith, z, length-drop (at + n) l)))

@@ -4,27 +4,11 @@ use rules::NO_BIT;
 ghost use mathlib.Core.Path.{_≡_};
 ghost use Prim.Native.Nat.{_<_, _≤_};
 ghost use lib.ListN.{length};
-ghost use Rattle.command.specs.View.{Sized};
 ghost use Rattle.text.specs.Puts.{Puts, Bounded};
 ghost use Rattle.rules.specs.Place.{startOf};
 ghost use Rattle.verdict.specs.Verdict.{imageLine, addressLine, placeLines, bitLine, whyLine, refusalText, verdictText};
 
 // ---- the command that a word stands in
-
-// The words of the command at a position; of a group that is cut its own words, which are too many already.
-fn size_at(list: &[u32], at: usize) -> usize
-    requires { ⌜ at < length (now list) ⌝ }
-    ensures { λ r. ⌜ Sized (now (list .entry)) at r ⌝ }
-{
-    let id = words::id_of(words::fetch(list, at));
-    if !table::is_group(id) {
-        return 1;
-    }
-    if list.len() - at < 4 {
-        return 4;
-    }
-    4 + command::payload(id, command::group_at(list, at))
-}
 
 // The first word of the command that word p stands in.
 fn start_of(list: &[u32], p: usize) -> usize
@@ -33,7 +17,7 @@ fn start_of(list: &[u32], p: usize) -> usize
 {
     let mut at = 0;
     while at < p {
-        let size = size_at(list, at);
+        let size = command::size_at(list, at);
         if p - at < size {
             return at;
         }

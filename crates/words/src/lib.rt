@@ -14,6 +14,16 @@ pub fn fetch(list: &[u32], at: usize) -> u32
     list[at]
 }
 
+// The same, zero past the end.
+pub fn fetch_or_zero(list: &[u32], at: usize) -> u32
+    ensures { λ r. ⌜ r ≡ getD (now (list .entry)) at 0 ⌝ }
+{
+    if at < list.len() {
+        return fetch(list, at);
+    }
+    0
+}
+
 pub fn id_of(word: u32) -> u8
     ensures { λ r. ⌜ r ≡ idOf word ⌝ }
 {

@@ -2,7 +2,8 @@ use native.Mathlib.Omega.{arith}
 use borrow.Author.Tests.{lt-ltb, le-ltb, eq-eqb, ne-eqb}
 use lib.ListN.{length-take}
 use lib.Seq.{take-length}
-use Rattle.rules.specs.Walk.{parse}
+use Rattle.rules.specs.Walk.{start, parse}
+use Rattle.list.proofs.Steps.{at-start}
 use borrow.Author.Needs.{needs}
 use Rattle.list.proofs.check.Statement.{statement}
 use Rattle.list.proofs.check.Tie as tie
@@ -23,7 +24,7 @@ unfolding parse
 returns-3 c =
     let a = c .before .before .before .before .before .before .before .before .before .before .before .args in
     rw (le-ltb _ _ (c .before .before .before .before .before .before .before .before .if1 .left), eq-eqb _ _ (c .before .before .before .before .before .before .before .if2 .left))
-    (rw (take-length (a .list .now)) at (c .walk .ensures (a .image .now)))
+    (rw (take-length (a .list .now)) at (c .walk .ensures (start (a .image .now)) (at-start (a .image .now))))
 
 pub check-spec : {M : Type 1} → statement M
 check-spec =

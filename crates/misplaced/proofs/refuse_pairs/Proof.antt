@@ -7,6 +7,7 @@ use Rattle.rules.specs.declared.Refusal.{Refusal}
 use Rattle.rules.specs.Pci.{values}
 use Rattle.misplaced.specs.View.{misplacedFrom, orElse}
 use Rattle.pairs.proofs.Pairs.{pair-count}
+use Rattle.command.proofs.Sizes.{size-pos}
 use Rattle.misplaced.proofs.Misplaced.{none-behind, leading-wrong, leading-cut, leading-all}
 use Rattle.misplaced.proofs.refuse_pairs.Statement.{statement}
 use Rattle.misplaced.proofs.refuse_pairs.Tie as tie
@@ -66,7 +67,7 @@ add-at c =
     omega (arith, e .0, c .before .before .before .before .before .before .before .before .good, pair-count ps)
 
 loop-less : tie.Need-loop-less Inv-loop μ-loop
-loop-less c = omega (arith, c .before .before .before .before .before .loop-test .taken, c .before .before .before .before .size-at .ensures .some)
+loop-less c = omega (arith, c .before .before .before .before .before .loop-test .taken, size-pos (values (c .before .before .before .before .before .before .before .before .args .pairs .now)) (c .before .before .before .before .before .before .loop .at) _ (c .before .before .before .before .size-at .ensures))
 
 loop-again : tie.Need-loop-again Inv-loop μ-loop
 loop-again c =

@@ -1,7 +1,9 @@
 use native.Mathlib.Omega.{arith}
 use lib.ListN.{length}
 use borrow.Author.Tests.{lt-ltb, le-ltb, eq-eqb, ne-eqb}
+use Rattle.rules.specs.Walk.{start}
 use Rattle.rules.specs.Pci.{values, parsePairs}
+use Rattle.list.proofs.Steps.{at-start}
 use Rattle.pairs.proofs.Pairs.{pair-count}
 use borrow.Author.Needs.{needs}
 use Rattle.pci_reader.proofs.check.Statement.{statement}
@@ -24,7 +26,7 @@ unfolding parsePairs
 returns-3 c =
     let a = c .before .before .before .before .before .before .before .before .before .before in
     let n = length (values (a .args .pairs .now)) in
-    rw (le-ltb 4096 n (omega (arith, c .before .before .before .before .before .before .before .if1 .left, pair-count (a .args .pairs .now))), eq-eqb _ _ (c .before .before .before .before .before .before .if2 .left)) (c .walk .ensures (a .args .image .now))
+    rw (le-ltb 4096 n (omega (arith, c .before .before .before .before .before .before .before .if1 .left, pair-count (a .args .pairs .now))), eq-eqb _ _ (c .before .before .before .before .before .before .if2 .left)) (c .walk .ensures (start (a .args .image .now)) (at-start (a .args .image .now)))
 
 pub check-spec : {M : Type 1} → statement M
 check-spec = tie.close

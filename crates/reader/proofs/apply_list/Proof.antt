@@ -8,7 +8,6 @@ use Rattle.rules.specs.Records.{records, recordWords}
 use Rattle.rules.specs.Answer.{commandsOf}
 use Rattle.theory.proofs.Parse.{parse-accepted}
 use Rattle.theory.proofs.Differing.{length-final}
-use Rattle.theory.proofs.Verdict.{length-recordWords}
 use Rattle.reader.proofs.Applying.{Applying, applying-start, applying-command, applying-on, applying-end}
 use Rattle.reader.proofs.apply_list.Statement.{statement}
 use Rattle.reader.proofs.apply_list.Tie as tie
@@ -25,9 +24,7 @@ loop-holds c = (parse-accepted _ _ _ (c .before .before .before .pre .0) .few, a
 apply-command-requires : tie.Need-apply-command-requires Inv-loop μ-loop
 apply-command-requires c κs =
     let a = c .before .before .before .before .before .before .before .before in
-    let n : length (recordWords (records 0 (commandsOf (parse (a .args .image .now) (a .args .list .now))))) ≤ length (a .args .buffer .now) =
-    omega (arith, length-recordWords (records 0 (commandsOf (parse (a .args .image .now) (a .args .list .now)))), a .pre .1) in
-    applying-command _ _ _ _ (c .before .before .before .before .loop .inv .0) _ _ _ (c .before .before .before .before .loop .inv .1) (c .before .before .if1 .taken) (parse-accepted _ _ _ (a .pre .0) .whole) n
+    applying-command _ _ _ _ (c .before .before .before .before .loop .inv .0) _ _ _ (c .before .before .before .before .loop .inv .1) (c .before .before .if1 .taken) (parse-accepted _ _ _ (a .pre .0) .whole) (a .pre .1)
 
 loop-less : tie.Need-loop-less Inv-loop μ-loop
 loop-less c =

@@ -1,7 +1,7 @@
 use native.Mathlib.Omega.{arith}
 use mathlib.Core.Path.{sym, _∙_}
 use Rattle.list.proofs.Answers.{counts}
-use Rattle.reader.proofs.Reading.{read-refused, read-short, read-done}
+use Rattle.reader.proofs.Reading.{read-refused, read-short, read-fits, read-done}
 use borrow.Author.Needs.{needs}
 use Rattle.reader.proofs.read.Statement.{statement}
 use Rattle.reader.proofs.read.Tie as tie
@@ -11,8 +11,8 @@ returns c = rw (c .no-room .ensures) (read-short _ _ _ _ _ (sym (c .before .befo
 
 apply-list-requires : tie.Need-apply-list-requires
 apply-list-requires c κs =
-    let n = counts _ _ _ (sym (c .before .before .before .before .before .before .check .ensures) ∙ c .before .before .before .before .w2 .given .1) in
-    (n .is, omega (arith, n .records-are, c .before .before .if1 .left))
+    let e = sym (c .before .before .before .before .before .before .check .ensures) ∙ c .before .before .before .before .w2 .given .1 in
+    (counts _ _ _ e .is, read-fits _ _ (c .before .before .before .before .before .before .before .before .before .before .before .args .records .now) _ _ e (c .before .before .if1 .left))
 
 returns-2 : tie.Need-returns-2
 returns-2 c = rw (c .refuse .ensures) (read-refused _ _ _ _ (sym (c .before .before .before .before .check .ensures) ∙ c .before .before .w .given .1))

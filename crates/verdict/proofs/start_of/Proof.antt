@@ -3,6 +3,7 @@ use native.Mathlib.Omega.{arith}
 use mathlib.Core.Path.{_≡_, refl, sym, _∙_}
 use lib.ListN.{drop}
 use Rattle.rules.specs.Place.{startFrom, startOf}
+use Rattle.command.proofs.Sizes.{size-pos}
 use Rattle.verdict.proofs.Start.{start-here, start-inside, start-beyond}
 use Rattle.verdict.proofs.start_of.Statement.{statement}
 use Rattle.verdict.proofs.start_of.Tie as tie
@@ -26,4 +27,4 @@ pub start-of-spec : {M : Type 1} → statement M
 start-of-spec =
     tie.close
     (tie.spec Inv-loop μ-loop (λ c. (omega arith, refl)) (λ c κs. omega (arith, c .before .before .before .pre)) (λ c. omega arith) returns
-    (λ c. omega (arith, c .before .before .before .before .before .pre)) (λ c. omega (arith, c .before .size-at .ensures .some)) loop-again returns-2)
+    (λ c. omega (arith, c .before .before .before .before .before .pre)) (λ c. omega (arith, size-pos (c .before .before .before .before .before .args .list .now) (c .before .before .before .loop .at) _ (c .before .size-at .ensures))) loop-again returns-2)

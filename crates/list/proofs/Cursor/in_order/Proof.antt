@@ -1,3 +1,4 @@
+use native.Mathlib.Nat.{add-zero}
 use mathlib.Core.Path.{ap, sym, _∙_}
 use Rattle.list.specs.View.{ordered}
 use borrow.Author.Needs.{needs}
@@ -5,7 +6,7 @@ use Rattle.list.proofs.Cursor.in_order.Statement.{statement}
 use Rattle.list.proofs.Cursor.in_order.Tie as tie
 
 returns-2 : tie.Need-returns-2
-returns-2 c = c .refused .ensures ∙ sym (ap (ordered (c .before .before .before .before .before .before .before .args .self)) (c .before .before .before .before .before .d .given .1) ∙ rw (c .before .if1 .taken))
+returns-2 c = c .refused .ensures ∙ sym (ap (ordered (c .before .before .before .before .before .before .before .args .self)) (c .before .before .before .before .before .d .given .1) ∙ rw (c .before .if1 .taken, add-zero))
 
 returns-3 : tie.Need-returns-3
 returns-3 c = sym (ap (ordered (c .before .before .before .before .before .before .args .self)) (c .before .before .before .before .d .given .1) ∙ rw (c .if1 .left))
