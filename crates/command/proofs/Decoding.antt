@@ -19,6 +19,7 @@ use Rattle.rules.specs.Values.{refusal, undefinedBit, shift, firstFault, faults
 use Rattle.rules.specs.Decode.{Decoded, bad, good, unknown, decodeRow, decode}
 use Rattle.theory.proofs.Numbers.{faults-proper}
 use Rattle.table.specs.declared.Group.{Group}
+use Rattle.command.specs.declared.Decoded.{Decoded as Decoded′}
 use Rattle.command.specs.declared.Decoded.the-variants.{Command, Refused}
 use Rattle.table.specs.Ids.{groupId}
 use Rattle.table.specs.Tables.{more, group, groupAt, rowCount, rowNumber, rowTable, rowAt, maskAt}
@@ -118,13 +119,18 @@ module _ (l : List ℕ) (at id : ℕ) (ei : id ≡ idOf (getD l at 0)) (small : 
 
 -- ---- by the table of rows lent
 
-module _ (rows l : List ℕ) (at id : ℕ) (lent : rows ≡ rowTable) (inside : at < length l) (ei : id ≡ idOf (getD l at 0)) (small : id < 256) where
-  pub at-unknown : rowCount ≤ getD rows id 0 → decodedAt l at ≡ refusedAt (unknown id) at
-  at-unknown n = decoded-unknown l at id ei small (omega (arith, row-at id small rows lent))
+module _ (rows l : List ℕ) (at : ℕ) (lent : rows ≡ rowTable) (inside : at < length l) {w : ℕ} (ew : w ≡ getD l at 0) {id : ℕ} (iw : id ≡ idOf w) (fit : getD l at 0 < 2 ^ 32) where
+  ei : id ≡ idOf (getD l at 0)
+  ei = iw ∙ ap idOf ew
 
-  module _ (n : getD rows id 0 < rowCount) where
-    pub at-known : KnownAt l at id (getD rows id 0)
-    at-known = record { inside = inside; id-is = ei; row-is = row-at id small rows lent; known = n }
+  small : id < 256
+  small = omega (arith, ei, fit)
+
+  pub at-unknown : rowCount ≤ getD rows id 0 → {n : ℕ} → n ≡ unknown id → {d : Decoded′} → d ≡ refusedAt n at → d ≡ decodedAt l at
+  at-unknown n em ed = ed ∙ ap (λ (k : ℕ). refusedAt k at) em ∙ sym (decoded-unknown l at id ei small (omega (arith, row-at id small rows lent)))
+
+  pub at-known : getD rows id 0 < rowCount → KnownAt l at id (getD rows id 0)
+  at-known n = record { inside = inside; id-is = ei; row-is = row-at id small rows lent; known = n }
 
 -- ---- a command of one word
 
@@ -175,7 +181,7 @@ module _ (l : List ℕ) (at id row : ℕ) (a : KnownAt l at id row) (small : id 
     unfolding firstAt
     first-is =
         ap (λ (x : Group). firstRefusal (faults (rowAt id) (x .header) (own (rowAt id) x))) (sym eg)
-        ∙ sym (ap (λ (n : ℕ). firstUndefined n g (valueFault id g)) (a .row-is) ∙ fault-is id g k₄)
+        ∙ sym (ap (λ (n : ℕ). firstUndefined n g (valueFault id g)) (a .row-is) ∙ fault-is id g k₄ grouped)
 
     -- 6
     pub group-undefined : b ≡ true → (f : Refusal) → f ≡ firstUndefined row g noRefusal → decodedAt l at ≡ Refused (shift at f)

@@ -155,7 +155,7 @@ pub fn primitive_command(at: usize, row: u8, g: Group) -> Decoded
     requires { ⌜ at + 4 < 2 ^ 64 ⌝ }
     ensures { λ r. ⌜ r ≡ ifLegal at 0x48 g (groupOf 4 row) ⌝ }
 {
-    if faults::bad_primitive(g) {
+    if faults::any(values::primitive_faults(g)) {
         return refused_values(at, 0x48, g);
     }
     group_command(4, row)
@@ -177,7 +177,7 @@ fn load_command(list: &[u32], at: usize, row: u8, g: Group) -> Decoded
     requires { ⌜ at + 4 ≤ length (now list) ⌝ }
     ensures { λ r. ⌜ r ≡ ifLegal at 0x40 g (wholeGroup (now (list .entry)) at (4 + payload 0x40 (g .header) (more g)) row) ⌝ }
 {
-    if faults::bad_load(g) {
+    if faults::any(values::load_faults(g)) {
         return refused_values(at, 0x40, g);
     }
     let words = 4 + payload(0x40, g);

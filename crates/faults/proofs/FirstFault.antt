@@ -13,7 +13,6 @@ use Rattle.rules.specs.Table.{Row}
 use Rattle.rules.specs.Values.{refusal, Fault, firstFault, undefinedFaults, valueFaults, faults}
 use Rattle.rules.specs.Decode.{Decoded, bad}
 use Rattle.theory.proofs.Numbers.{Proper, not-zero, values-proper}
-use Rattle.theory.proofs.Lowest.{all-ones-defined}
 use Rattle.theory.proofs.Refusals.{OfFaults}
 use Rattle.table.specs.declared.Group.{Group}
 use Rattle.table.specs.Ids.{groupId}
@@ -21,6 +20,8 @@ use Rattle.table.specs.Tables.{more, rowNumber, rowAt, maskOf, maskAt}
 use Rattle.table.proofs.Tables.{Known, ruled}
 use Rattle.values.specs.declared.Faults.{Faults}
 use Rattle.values.specs.First.{firstRefusal, found, noRefusal, firstOf}
+use Rattle.values.specs.Broken.{loadBroken, primitiveBroken}
+use Rattle.values.proofs.Broken.{load-first, primitive-first}
 use Rattle.faults.specs.Faults.{unlessDefined, firstUndefined, own, anyUndefined, valueFault}
 
 no-case : {A : Type 0} (a b c d : Bool) (w x y z e : A) → ((a || b) || (c || d)) ≡ false → cond a w (cond b x (cond c y (cond d z e))) ≡ e
@@ -34,41 +35,29 @@ unruled-values : (id h : ℕ) (ws : List ℕ) → ruled id ≡ false → valueFa
 unfolding valueFaults
 unruled-values id h ws e = no-case (eqb id 0x40) (eqb id 0x48) (eqb id 0x84) (eqb id 0x88) _ _ _ _ [] e
 
--- the faults of a command with one word, and with four
+-- the faults of a group
 module _ (r : Row) (h a b c : ℕ) (m₀ m₁ m₂ m₃ : ℕ) where
-  pub by-masks : (more : List ℕ) → r .more ≡ more → (m₀ ∷ m₁ ∷ m₂ ∷ m₃ ∷ []) ≡ (maskOf r 0 ∷ maskOf r 1 ∷ maskOf r 2 ∷ maskOf r 3 ∷ [])
-      → (fours : Bool) → length more ≡ cond fours 3 0 → (fours ≡ false → ruled (r .id) ≡ false)
+  by-masks : (more : List ℕ) → r .more ≡ more → (m₀ ∷ m₁ ∷ m₂ ∷ m₃ ∷ []) ≡ (maskOf r 0 ∷ maskOf r 1 ∷ maskOf r 2 ∷ maskOf r 3 ∷ []) → length more ≡ 3
       → unlessDefined 0 h m₀ (unlessDefined 1 a m₁ (unlessDefined 2 b m₂ (unlessDefined 3 c m₃ (firstRefusal (valueFaults (r .id) h (a ∷ b ∷ c ∷ []))))))
       ≡ firstRefusal (faults r h (take (length (r .more)) (a ∷ b ∷ c ∷ [])))
   unfolding faults
-  by-masks [] em e true l n = absurd (omega arith)
-  by-masks [] em e false l n =
-      let e₀ : m₀ ≡ r .mask = cc in
-      let e₁ : m₁ ≡ 0xFFFFFFFF = cc in
-      let e₂ : m₂ ≡ 0xFFFFFFFF = cc in
-      let e₃ : m₃ ≡ 0xFFFFFFFF = cc in
-      rw (em, e₀, e₁, e₂, e₃, all-ones-defined a, all-ones-defined b, all-ones-defined c, unruled-values (r .id) h (a ∷ b ∷ c ∷ []) (n refl), unruled-values (r .id) h [] (n refl))
-  by-masks (x ∷ []) em e true l n = absurd (omega arith)
-  by-masks (x ∷ []) em e false l n = absurd (omega arith)
-  by-masks (x ∷ y ∷ []) em e true l n = absurd (omega arith)
-  by-masks (x ∷ y ∷ []) em e false l n = absurd (omega arith)
-  by-masks (x ∷ y ∷ z ∷ []) em e true l n =
+  by-masks [] em e l = absurd (omega arith)
+  by-masks (x ∷ []) em e l = absurd (omega arith)
+  by-masks (x ∷ y ∷ []) em e l = absurd (omega arith)
+  by-masks (x ∷ y ∷ z ∷ []) em e l =
       let e₀ : m₀ ≡ r .mask = cc in
       let e₁ : m₁ ≡ x = cc in
       let e₂ : m₂ ≡ y = cc in
       let e₃ : m₃ ≡ z = cc in
       rw (em, e₀, e₁, e₂, e₃)
-  by-masks (x ∷ y ∷ z ∷ []) em e false l n = absurd (omega arith)
-  by-masks (x ∷ y ∷ z ∷ w ∷ rest) em e true l n = absurd (omega arith)
-  by-masks (x ∷ y ∷ z ∷ w ∷ rest) em e false l n = absurd (omega arith)
+  by-masks (x ∷ y ∷ z ∷ w ∷ rest) em e l = absurd (omega arith)
 
--- undefined bits under the masks of an id's row, then the rules on values: the first fault of its command
-pub fault-is : (id : ℕ) (g : Group) → Known id
-    → firstUndefined (rowNumber id) g (firstRefusal (valueFaults id (g .header) (more g))) ≡ firstRefusal (faults (rowAt id) (g .header) (own (rowAt id) g))
-fault-is id g k =
-    ap (λ (j : ℕ). firstUndefined (rowNumber id) g (firstRefusal (valueFaults j (g .header) (more g)))) (sym (k .own-id))
-    ∙ by-masks (rowAt id) (g .header) (g .second) (g .third) (g .fourth) _ _ _ _ (rowAt id .more) refl (k .masks) (groupId id) (k .length-more)
-    (λ f. ap ruled (k .own-id) ∙ k .one-word f)
+-- undefined bits under the masks of an id's row, then the rules on values: the first fault of a group
+pub fault-is : (id : ℕ) (g : Group) → Known id → groupId id ≡ true
+    → firstUndefined (rowNumber id) g (valueFault id g) ≡ firstRefusal (faults (rowAt id) (g .header) (own (rowAt id) g))
+fault-is id g k t =
+    ap (λ (j : ℕ). firstUndefined (rowNumber id) g (valueFault j g)) (sym (k .own-id))
+    ∙ by-masks (rowAt id) (g .header) (g .second) (g .third) (g .fourth) _ _ _ _ (rowAt id .more) refl (k .masks) (k .length-more ∙ ap (λ (b : Bool). cond b 3 0) t)
 
 -- a fault among four, or a later one
 found-first : (a b c d : Bool) (p q r s next : Refusal) → found p ≡ true → found q ≡ true → found r ≡ true → found s ≡ true
@@ -117,7 +106,6 @@ module _ (n : ℕ) (g : Group) where
       rw e (near-case (undefined (g .header) (maskAt n 0)) (undefined (g .second) (maskAt n 1)) (undefined (g .third) (maskAt n 2)) (undefined (g .fourth) (maskAt n 3))
       _ _ _ _ noRefusal (omega arith) (omega arith) (omega arith) (omega arith) (omega arith))
 
-
 pub any-is : (f : Faults) → ((f .first || f .second) || (f .third || f .fourth)) || not (eqb (f .clash) 0) ≡ found (firstOf f)
 any-is f = found-first (f .first) (f .second) (f .third) (f .fourth) _ _ _ _ (refusal (f .clash) 0) refl refl refl refl
 
@@ -155,3 +143,13 @@ first-near m (f ∷ fs) p =
 
 pub value-near : (id : ℕ) (g : Group) (f : Refusal) → f ≡ valueFault id g → f .word ≤ 3
 value-near id g f e = rw e (first-near 3 (valueFaults id (g .header) (more g)) (values-proper id (g .header) (more g)))
+
+-- a load, or a primitive, breaks a rule on values
+module _ (g : Group) {f : Faults} {b : Bool} (eb : b ≡ found (firstOf f)) where
+  pub load-found : f ≡ loadBroken g → b ≡ found (valueFault 0x40 g)
+  unfolding valueFaults
+  load-found ef = eb ∙ ap found (ap firstOf ef ∙ load-first g)
+
+  pub primitive-found : f ≡ primitiveBroken g → b ≡ found (valueFault 0x48 g)
+  unfolding valueFaults
+  primitive-found ef = eb ∙ ap found (ap firstOf ef ∙ primitive-first g)

@@ -66,27 +66,15 @@ pub fn undefined_fault(row: u8, header: u32, second: u32, third: u32, fourth: u3
 
 // ---- illegal values and clashes
 
-fn any(f: Faults) -> bool
+// A rule on values is broken; which one is asked only on refusal.
+pub fn any(f: Faults) -> bool
     ensures { λ r. ⌜ r ≡ found (firstOf f) ⌝ }
 {
     ((f.first | f.second) | (f.third | f.fourth)) | (f.clash != 0)
 }
 
-// A load breaks a rule on values; which one, here and below, is asked only on refusal.
-pub fn bad_load(g: Group) -> bool
-    ensures { λ r. ⌜ r ≡ found (valueFault 0x40 g) ⌝ }
-{
-    any(values::load_faults(g))
-}
-
-pub fn bad_primitive(g: Group) -> bool
-    ensures { λ r. ⌜ r ≡ found (valueFault 0x48 g) ⌝ }
-{
-    any(values::primitive_faults(g))
-}
-
-// Of the other commands window clip and raster mode have rules. The words come one by one: so it is inlined in both of its
-// callers, the decoding of lists and of pairs.
+// The same of a command that is no load and no primitive: window clip and raster mode have rules. The words come one by one: so
+// it is inlined in both of its callers, the decoding of lists and of pairs.
 pub fn bad_other(id: u8, header: u32, second: u32, third: u32, fourth: u32) -> bool
     requires { ⌜ (id ≡ 0x40 → ⊥) × (id ≡ 0x48 → ⊥) ⌝ }
     ensures { λ r. ⌜ r ≡ found (valueFault id (group header second third fourth)) ⌝ }

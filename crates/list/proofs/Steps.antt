@@ -7,15 +7,15 @@ use mathlib.Core.Bool.{Bool, true, false, cond}
 use mathlib.Core.List.{List, [], _∷_}
 use lib.ListN.{length, getD, drop, length-drop}
 use Rattle.rules.specs.declared.Refusal.{Refusal}
-use Rattle.rules.specs.Table.{isSetting}
+use Rattle.rules.specs.Table.{plain, begins, isSetting, isBegin}
 use Rattle.rules.specs.Command.{Command}
-use Rattle.rules.specs.Values.{Fault, firstFault}
+use Rattle.rules.specs.Values.{shift, Fault, firstFault}
 use Rattle.rules.specs.Decode.{Decoded, bad, good, decode}
 use Rattle.rules.specs.Walk.{State, start, orderFaults, orderAfter, next, Step, stop, took, stepDecoded, step, Parsed, refused, accepted, andThen, onward, walk}
 use Rattle.rules.specs.Records.{records}
+use Rattle.theory.proofs.Valid.{first-holds, first-told}
 use Rattle.theory.proofs.Parse.{decode-read, step-took}
 use Rattle.theory.proofs.Walk.{walk-at, walk-end}
-use Rattle.command.specs.declared.Command.{Command as Kept}
 use Rattle.command.specs.declared.Decoded.{Decoded as Decoded′}
 use Rattle.command.specs.declared.Decoded.the-variants as decoded
 use Rattle.command.specs.View.{kept, decodedAt}
@@ -29,23 +29,19 @@ use Rattle.list.specs.View.{origin, Counted, InsideAfter, after, keptFau
 -- ---- one step
 
 -- a command in order is the one given
-inside-first : (c : Cursor) (k : Kept) → InsideAfter c (decoded.Command k) → (fs : List Fault) → InsideAfter c (firstFault (refuseAt c) fs (decoded.Command k))
-inside-first c k h [] = h
-inside-first c k h (f ∷ fs) =
-    elim (f .found) as (λ b. InsideAfter c (cond b (refuseAt c (f .why)) (firstFault (refuseAt c) fs (decoded.Command k)))) [
-      | true ↦ tt
-      | false ↦ inside-first c k h fs
-    ]
-
 pub inside-ordered : (c : Cursor) (d : Decoded′) → InsideAfter c d → InsideAfter c (ordered c d)
 inside-ordered c (decoded.Refused f) h = tt
-inside-ordered c (decoded.Command k) h = inside-first c k h (keptFaults c k)
+inside-ordered c (decoded.Command k) h = first-holds (InsideAfter c) (refuseAt c) (λ f. tt) (keptFaults c k) (decoded.Command k) h
+
+pub kept-begin : (b : Bool) → isBegin (cond b begins plain) ≡ b
+kept-begin true = refl
+kept-begin false = refl
 
 -- what a cursor stands for: the rules on order find the same of a command, and the cursor after it stands for the state there
 module _ (c : Cursor) (s : State) (a : StandsFor c s) (d : Command) where
   faults-are : keptFaults c (kept d) ≡ orderFaults s d
   unfolding orderFaults
-  faults-are = rw (a .flip)
+  faults-are = rw (a .flip, kept-begin (isBegin (d .row .kind)))
 
   after-is : after c (kept d) ≡ behind c d (next s d)
   unfolding orderAfter
@@ -61,21 +57,12 @@ module _ (l : List ℕ) (c : Cursor) where
   abbrev ws : List ℕ
   ws = drop (suc (c .at)) l
 
-  by-faults : (fs : List Fault) (k : Kept) (x : Step) → On (after c k) ≡ view c x
-      → advanced c (firstFault (refuseAt c) fs (decoded.Command k)) ≡ view c (firstFault stop fs x)
-  by-faults [] k x e = e
-  by-faults (f ∷ fs) k x e =
-      elim (f .found) as (λ b. advanced c (cond b (refuseAt c (f .why)) (firstFault (refuseAt c) fs (decoded.Command k)))
-      ≡ view c (cond b (stop (f .why)) (firstFault stop fs x))) [
-        | true ↦ refl
-        | false ↦ by-faults fs k x e
-      ]
-
   by-decoded : (s : State) → StandsFor c s → (x : Decoded) → taken c (viewDecoded (c .at) x) ≡ view c (stepDecoded s x)
   by-decoded s a (bad f) = refl
   by-decoded s a (good d) =
-      by-faults (keptFaults c (kept d)) (kept d) (took d (next s d)) (ap On (after-is c s a d))
-      ∙ ap (λ (fs : List Fault). view c (firstFault stop fs (took d (next s d)))) (faults-are c s a d)
+      first-told (advanced c) (refuseAt c) (keptFaults c (kept d)) (decoded.Command (kept d))
+      ∙ ap₂ (λ (fs : List Fault) (e : Cursor). firstFault (λ f. Refused (shift (c .at) f)) fs (On e)) (faults-are c s a d) (after-is c s a d)
+      ∙ sym (first-told (view c) stop (orderFaults s d) (took d (next s d)))
 
   -- a step takes the decoded command
   pub step-taken : (d : Decoded′) → d ≡ decodedAt l (c .at) → Steps l c (taken c d)

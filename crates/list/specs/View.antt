@@ -1,15 +1,15 @@
 -- The walk along a list, as the code has it: `Rattle.rules`' walk with its commands counted.
 use Prim.Native.Nat.{ℕ, suc, _+_, _^_, _≤_, _<_}
 use mathlib.Core.Path.{_≡_}
-use mathlib.Core.Bool.{cond, false, not, _&&_}
-use mathlib.Core.List.{List, [], _∷_}
+use mathlib.Core.Bool.{cond, false}
+use mathlib.Core.List.{List, []}
 use lib.ListN.{length, getD, drop}
 use Rattle.rules.specs.declared.Refusal.{Refusal}
-use Rattle.rules.specs.Table.{isSetting}
+use Rattle.rules.specs.Table.{plain, begins, isSetting}
 use Rattle.rules.specs.Command.{Command as RulesCommand}
-use Rattle.rules.specs.Walk.{State, stop, took, step, Parsed, refused, accepted}
+use Rattle.rules.specs.Walk.{State, orderFaults, stop, took, step, Parsed, refused, accepted}
 use Rattle.rules.specs.Walk.{Step as RulesStep}
-use Rattle.rules.specs.Values.{shift, Fault, fault, firstFault}
+use Rattle.rules.specs.Values.{shift, Fault, firstFault}
 use Rattle.rules.specs.Records.{records}
 use Rattle.command.specs.declared.Command.{Command}
 use Rattle.command.specs.declared.Decoded.{Decoded}
@@ -42,9 +42,16 @@ after c k =
       flip = k .base;
     }
 
--- the rules on order that a command breaks, by what is kept of it
+-- a state that a cursor stands for, and a command of which just so much is kept: all that the rules on order ask for
+abbrev pub someState : Cursor → State
+someState c = record { order = record { flip = c .flip }; image = [] }
+
+abbrev pub someCommand : Command → RulesCommand
+someCommand k = record { row = record { id = 0; mask = 0; more = []; kind = cond (k .begin) begins plain }; header = 0; rest = [] }
+
+-- the rules on order that a kept command breaks
 abbrev pub keptFaults : Cursor → Command → List Fault
-keptFaults c k = fault (c .flip && not (k .begin)) 10 0 ∷ []
+keptFaults c k = orderFaults (someState c) (someCommand k)
 
 abbrev pub refuseAt : Cursor → Refusal → Decoded
 refuseAt c f = decoded.Refused (shift (c .at) f)

@@ -29,7 +29,10 @@ address-of (a ∷ v ∷ ps) (suc at) h =
     let i : 2 * suc at ≡ suc (suc (2 * at)) = omega arith in
     ap (λ (k : ℕ). getD (a ∷ v ∷ ps) k 0) i ∙ address-of ps at (omega arith)
 
--- an id that a pair's value has
+-- a pair's value is a word, and its id a byte
+pub value-fits : (ps : List ℕ) (at : ℕ) → at < length (values ps) → getD ps (2 * at + 1) 0 < 2 ^ 32 → getD (values ps) at 0 < 2 ^ 32
+value-fits ps at h f = omega (arith, value-of ps at h, f)
+
 pub id-small : (ps : List ℕ) (at id : ℕ) → at < length (values ps) → getD ps (2 * at + 1) 0 < 2 ^ 32 → id ≡ idOf (getD (values ps) at 0) → id < 256
 id-small ps at id h f e = omega (arith, value-of ps at h, f, e)
 

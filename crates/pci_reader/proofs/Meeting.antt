@@ -4,24 +4,24 @@ use native.Mathlib.Nat.{zero-add}
 use native.Mathlib.Omega.{arith}
 use mathlib.Core.Path.{_≡_, refl, ap, ap₂, sym, _∙_}
 use mathlib.Core.Bool.{Bool, true, false, cond, not, _&&_, _||_}
-use mathlib.Core.List.{List, [], _∷_}
+use mathlib.Core.List.{List}
 use mathlib.Core.Option.{Option, none, some}
 use lib.Dec.{eqb, leb}
 use borrow.Author.Tests.{le-leb, leb-true, le-ltb}
 use lib.ListN.{length, getD}
 use Rattle.rules.specs.declared.Refusal.{Refusal}
 use Rattle.rules.specs.Command.{payload}
-use Rattle.rules.specs.Values.{shift, Fault, firstFault}
+use Rattle.rules.specs.Values.{shift}
 use Rattle.rules.specs.Form.{read}
 use Rattle.rules.specs.Walk.{walk}
 use Rattle.rules.specs.Pci.{addressCount, address, values, unless}
+use Rattle.theory.proofs.Valid.{first-holds}
 use Rattle.theory.proofs.Bools.{and-left, and-right}
 use Rattle.table.specs.declared.Group.{Group}
 use Rattle.table.specs.Ids.{groupId}
 use Rattle.table.specs.Tables.{more, groupAt}
 use Rattle.values.specs.First.{found}
 use Rattle.faults.specs.Faults.{anyUndefined, valueFault}
-use Rattle.command.specs.declared.Command.{Command as Kept}
 use Rattle.command.specs.declared.Decoded.{Decoded}
 use Rattle.command.specs.declared.Decoded.the-variants as decoded
 use Rattle.command.specs.View.{sizeAt, refusedAt, groupOf, ifLegal, wholeGroup, decodedAt, KnownAt}
@@ -152,20 +152,11 @@ module _ (ps : List ℕ) (c : Cursor) where
   met-inside (decoded.Refused f) m long inside = tt
   met-inside (decoded.Command k) m long inside = inside-after (values ps) c (decoded.Command k) (m .0) long inside
 
-  by-faults : (k : Kept) → misplacedFrom (c .at) ps ≡ misplacedFrom (c .at + k .words) ps → (fs : List Fault)
-      → Steps (values ps) c (advanced c (firstFault (refuseAt c) fs (decoded.Command k)))
-      → Stepped ps c (advanced c (firstFault (refuseAt c) fs (decoded.Command k)))
-  by-faults k p [] s = (s, p)
-  by-faults k p (f ∷ fs) s =
-      (elim (f .found) as (λ b. Steps (values ps) c (advanced c (cond b (refuseAt c (f .why)) (firstFault (refuseAt c) fs (decoded.Command k))))
-      → Stepped ps c (advanced c (cond b (refuseAt c (f .why)) (firstFault (refuseAt c) fs (decoded.Command k))))) [
-        | true ↦ λ t e. t
-        | false ↦ λ t. by-faults k p fs t
-      ]) s
-
   pub stepped : (d : Decoded) → Met ps (c .at) d → Stepped ps c (taken c d)
   stepped (decoded.Refused f) m = λ e. step-taken (values ps) c (decoded.Refused f) (m e)
-  stepped (decoded.Command k) m = by-faults k (m .1) (keptFaults c k) (step-taken (values ps) c (decoded.Command k) (m .0))
+  stepped (decoded.Command k) m =
+      first-holds (λ d. Steps (values ps) c (advanced c d) → Stepped ps c (advanced c d)) (refuseAt c) (λ f t e. t) (keptFaults c k) (decoded.Command k) (λ t. (t, m .1))
+      (step-taken (values ps) c (decoded.Command k) (m .0))
 
 -- ---- the walk
 

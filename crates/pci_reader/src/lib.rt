@@ -41,7 +41,7 @@ fn load_command(pairs: &[u32], at: usize, row: u8, g: Group) -> Decoded
     requires { ⌜ at + 4 ≤ length (values (now pairs)) ⌝ }
     ensures { λ r. ⌜ r ≡ ifLegal at 0x40 g (placedGroup (given pairs) at 0x40 (payload 0x40 (g .header) (more g)) row) ⌝ }
 {
-    if faults::bad_load(g) {
+    if faults::any(values::load_faults(g)) {
         return command::refused_fault(
             at,
             faults::value_fault(0x40, g.header, g.second, g.third, g.fourth),

@@ -4,7 +4,7 @@ use native.Mathlib.Nat.{add-zero, zero-add, add-suc, suc-add, le-of-suc-le-suc, 
 use native.Mathlib.Omega.{arith}
 use mathlib.Core.Path.{_≡_, refl, ap, sym, _∙_}
 use mathlib.Core.Bool.{Bool, true, false, cond, not, _&&_, _||_}
-use mathlib.Core.List.{List}
+use mathlib.Core.List.{List, [], _∷_}
 use mathlib.Core.Option.{Option, none, some}
 use lib.Dec.{eqb, leb, ltb}
 use borrow.Author.Tests.{eqb-true, ltb-true, not-true}
@@ -56,24 +56,48 @@ kindTest id = cond (inSet groupSettings id) 2 (cond ((eqb id 0x02 || eqb id 0x26
 abbrev pub knownGroupTest : ℕ → ℕ → Bool
 knownGroupTest id row = leb 0x40 id || eqb row beginRow
 
-idFits : ℕ → Bool
-idFits id = (same (beginId id) (beginTest id) && same (keptId id) (keptTest id)) && (eqb (settingKind id) (kindTest id) && same (groupId id) (inSet groups id))
+-- tests, all of which hold
+abbrev allOf : List Bool → Bool
+allOf [] = true
+allOf (b ∷ bs) = b && allOf bs
+
+abbrev AllOf : List Bool → Type 0
+AllOf [] = Unit {0}
+AllOf (b ∷ bs) = (b ≡ true) × AllOf bs
+
+all-of : (bs : List Bool) → allOf bs ≡ true → AllOf bs
+all-of [] e = tt
+all-of (b ∷ bs) e = (and-left b (allOf bs) e, all-of bs (and-right b (allOf bs) e))
+
+-- of any id
+idTests : ℕ → List Bool
+idTests id = same (beginId id) (beginTest id) ∷ same (keptId id) (keptTest id) ∷ eqb (settingKind id) (kindTest id) ∷ same (groupId id) (inSet groups id) ∷ []
 
 -- of a known id: its row is one of them, with the row's masks and its size; four words where values have rules; its kind by its
 -- row; a BEGIN has four words, and a surface base one
+rowTests : ℕ → Row → List Bool
+rowTests id r =
+    eqb (r .id) id
+    ∷ ltb (rowNumber id) rowCount
+    ∷ equal (rowMasks (rowNumber id)) (masksOf r)
+    ∷ eqb (length (r .more)) (cond (groupId id) 3 0)
+    ∷ (not (ruled id) || groupId id)
+    ∷ same (groupId id) (knownGroupTest id (rowNumber id))
+    ∷ same (isSetting (r .kind)) (settingRow (groupId id) (rowNumber id))
+    ∷ same (isBegin (r .kind)) (eqb (rowNumber id) beginRow)
+    ∷ same (isBase id) (eqb (rowNumber id) baseRow)
+    ∷ not (cond (groupId id) (isBase id) (isBegin (r .kind)))
+    ∷ []
+
 rowFits : ℕ → Option Row → Bool
 rowFits id none = eqb (rowNumber id) rowCount
-rowFits id (some r) =
-    (eqb (r .id) id && ltb (rowNumber id) rowCount) && (equal (rowMasks (rowNumber id)) (masksOf r) && (eqb (length (r .more)) (cond (groupId id) 3 0)
-    && ((not (ruled id) || groupId id) && (same (groupId id) (knownGroupTest id (rowNumber id)) && (same (isSetting (r .kind)) (settingRow (groupId id) (rowNumber id))
-    && (same (isBegin (r .kind)) (eqb (rowNumber id) beginRow)
-    && (same (isBase id) (eqb (rowNumber id) baseRow) && not (cond (groupId id) (isBase id) (isBegin (r .kind))))))))))
+rowFits id (some r) = allOf (rowTests id r)
 
 fitsAt : ℕ → Bool
-fitsAt id = idFits id && rowFits id (rowOf id)
+fitsAt id = allOf (idTests id) && rowFits id (rowOf id)
 
 all-fit : every 256 0 fitsAt ≡ true
-unfolding fitsAt idFits rowFits rowNumber rowOf table maskAt isBase beginId settingKind settingId groupId keptId keptIds groupSettings groups
+unfolding fitsAt idTests rowTests rowFits rowNumber rowOf table maskAt isBase beginId settingKind settingId groupId keptId keptIds groupSettings groups
 all-fit = refl
 
 -- ---- what it says
@@ -101,30 +125,23 @@ unruled false b t e = refl
 
 module _ (id : ℕ) where
   row-known : (r : Row) → rowOf id ≡ some r → rowFits id (some r) ≡ true → Known id
-  unfolding rowFits rowAt
+  unfolding rowFits rowTests rowAt
   row-known r e t₀ =
-      let n : ℕ = rowNumber id in
       let is : orUnknown (rowOf id) ≡ r = ap orUnknown e in
-      let p : (eqb (r .id) id && ltb n rowCount) ≡ true = and-left _ _ t₀ in
-      let t₁ = and-right (eqb (r .id) id && ltb n rowCount) _ t₀ in
-      let t₂ = and-right (equal (rowMasks n) (masksOf r)) _ t₁ in
-      let t₃ = and-right (eqb (length (r .more)) (cond (groupId id) 3 0)) _ t₂ in
-      let t₄ = and-right (not (ruled id) || groupId id) _ t₃ in
-      let t₅ = and-right (same (groupId id) (knownGroupTest id n)) _ t₄ in
-      let t₆ = and-right (same (isSetting (r .kind)) (settingRow (groupId id) n)) _ t₅ in
-      let t₇ = and-right (same (isBegin (r .kind)) (eqb n beginRow)) _ t₆ in
+      let t = all-of (rowTests id r) t₀ in
+      let u = t .1 .1 .1 .1 in
       record {
-        small = ltb-true n rowCount (and-right (eqb (r .id) id) _ p);
         found = e ∙ ap some (sym is);
-        own-id = ap (λ (x : Row). x .id) is ∙ eqb-true (r .id) id (and-left (eqb (r .id) id) (ltb n rowCount) p);
-        masks = equal-true (rowMasks n) (masksOf r) (and-left (equal (rowMasks n) (masksOf r)) _ t₁) ∙ ap (λ (x : Row). masksOf x) (sym is);
-        length-more = ap (λ (x : Row). length (x .more)) is ∙ eqb-true _ _ (and-left (eqb (length (r .more)) (cond (groupId id) 3 0)) _ t₂);
-        one-word = unruled (ruled id) (groupId id) (and-left (not (ruled id) || groupId id) _ t₃);
-        group = same-true (groupId id) (knownGroupTest id n) (and-left (same (groupId id) (knownGroupTest id n)) _ t₄);
-        setting-row = ap (λ (x : Row). isSetting (x .kind)) is ∙ same-true (isSetting (r .kind)) (settingRow (groupId id) n) (and-left (same (isSetting (r .kind)) (settingRow (groupId id) n)) _ t₅);
-        begins = ap (λ (x : Row). isBegin (x .kind)) is ∙ same-true (isBegin (r .kind)) (eqb n beginRow) (and-left (same (isBegin (r .kind)) (eqb n beginRow)) _ t₆);
-        base = same-true (isBase id) (eqb n baseRow) (and-left (same (isBase id) (eqb n baseRow)) _ t₇);
-        apart = ap (λ (x : Row). cond (groupId id) (isBase id) (isBegin (x .kind))) is ∙ not-true (cond (groupId id) (isBase id) (isBegin (r .kind))) (and-right (same (isBase id) (eqb n baseRow)) _ t₇);
+        own-id = ap (λ (x : Row). x .id) is ∙ eqb-true _ _ (t .0);
+        small = ltb-true _ _ (t .1 .0);
+        masks = equal-true _ _ (t .1 .1 .0) ∙ ap (λ (x : Row). masksOf x) (sym is);
+        length-more = ap (λ (x : Row). length (x .more)) is ∙ eqb-true _ _ (t .1 .1 .1 .0);
+        one-word = unruled _ _ (u .0);
+        group = same-true _ _ (u .1 .0);
+        setting-row = ap (λ (x : Row). isSetting (x .kind)) is ∙ same-true _ _ (u .1 .1 .0);
+        begins = ap (λ (x : Row). isBegin (x .kind)) is ∙ same-true _ _ (u .1 .1 .1 .0);
+        base = same-true _ _ (u .1 .1 .1 .1 .0);
+        apart = ap (λ (x : Row). cond (groupId id) (isBase id) (isBegin (x .kind))) is ∙ not-true _ (u .1 .1 .1 .1 .1 .0);
       }
 
   by-row : (o : Option Row) → rowOf id ≡ o → rowFits id o ≡ true → rowNumber id < rowCount → Known id
@@ -137,47 +154,46 @@ module _ (id : ℕ) where
   past-rows (some r) e t h = let k = row-known r e t in absurd (omega (arith, k .small))
 
   module _ (h : id < 256) where
-    test : (idFits id && rowFits id (rowOf id)) ≡ true
+    test : (allOf (idTests id) && rowFits id (rowOf id)) ≡ true
     unfolding fitsAt
     test = ap fitsAt (sym (zero-add id)) ∙ every-from 256 0 fitsAt all-fit id h
 
-    tests : idFits id ≡ true
-    tests = and-left (idFits id) (rowFits id (rowOf id)) test
+    row-test : rowFits id (rowOf id) ≡ true
+    row-test = and-right (allOf (idTests id)) _ test
 
     pub known : rowNumber id < rowCount → Known id
-    known k = by-row (rowOf id) refl (and-right (idFits id) (rowFits id (rowOf id)) test) k
+    known k = by-row (rowOf id) refl row-test k
 
     pub known-row : (r : Row) → rowOf id ≡ some r → Known id
-    known-row r e = row-known r e (ap (rowFits id) (sym e) ∙ and-right (idFits id) (rowFits id (rowOf id)) test)
+    known-row r e = row-known r e (ap (rowFits id) (sym e) ∙ row-test)
 
     -- one that has none
     pub unknown-row : rowCount ≤ rowNumber id → rowOf id ≡ none
-    unknown-row k = past-rows (rowOf id) refl (and-right (idFits id) (rowFits id (rowOf id)) test) k
+    unknown-row k = past-rows (rowOf id) refl row-test k
 
     pub row-at : (l : List ℕ) → l ≡ rowTable → getD l id 0 ≡ rowNumber id
     unfolding rowTable
     row-at l e = ap (λ (m : List ℕ). getD m id 0) e ∙ tabulate-from 256 0 rowNumber id h ∙ ap rowNumber (zero-add id)
 
     -- every id, known or not
-    headers : (same (beginId id) (beginTest id) && same (keptId id) (keptTest id)) ≡ true
-    unfolding idFits
-    headers = and-left (same (beginId id) (beginTest id) && same (keptId id) (keptTest id)) _ tests
-
-    sizes : (eqb (settingKind id) (kindTest id) && same (groupId id) (inSet groups id)) ≡ true
-    unfolding idFits
-    sizes = and-right (same (beginId id) (beginTest id) && same (keptId id) (keptTest id)) _ tests
+    tests : AllOf (idTests id)
+    tests = all-of (idTests id) (and-left (allOf (idTests id)) _ test)
 
     pub begin-is : beginTest id ≡ beginId id
-    begin-is = sym (same-true (beginId id) (beginTest id) (and-left (same (beginId id) (beginTest id)) _ headers))
+    unfolding idTests
+    begin-is = sym (same-true _ _ (tests .0))
 
     pub kept-is : keptTest id ≡ keptId id
-    kept-is = sym (same-true (keptId id) (keptTest id) (and-right (same (beginId id) (beginTest id)) _ headers))
+    unfolding idTests
+    kept-is = sym (same-true _ _ (tests .1 .0))
 
     pub kind-is : kindTest id ≡ settingKind id
-    kind-is = sym (eqb-true _ _ (and-left (eqb (settingKind id) (kindTest id)) _ sizes))
+    unfolding idTests
+    kind-is = sym (eqb-true _ _ (tests .1 .1 .0))
 
     pub group-is : inSet groups id ≡ groupId id
-    group-is = sym (same-true (groupId id) (inSet groups id) (and-right (eqb (settingKind id) (kindTest id)) _ sizes))
+    unfolding idTests
+    group-is = sym (same-true _ _ (tests .1 .1 .1 .0))
 
 pub row-is : (id : ℕ) (r : Row) → rowOf id ≡ some r → rowAt id ≡ r
 unfolding rowAt

@@ -4,14 +4,14 @@ use mathlib.Core.Bool.{Bool, false, cond, _||_}
 use mathlib.Core.List.{List, [], _∷_}
 use mathlib.Core.Option.{Option, none, some}
 use lib.Dec.{eqb, leb}
-use lib.ListN.{getD}
+use lib.ListN.{length, getD}
 use Rattle.rules.specs.Word.{headerOf}
 use Rattle.rules.specs.Table.{Line, lines, plain, Row, rowWith, rowOf}
 use Rattle.table.specs.declared.Group.{Group}
 
 -- how many rows there are
 abbrev pub rowCount : ℕ
-rowCount = 16
+rowCount = length lines
 
 -- the rows that are asked for by number: of one word the settings and the surface bases, of four BEGIN and the first setting
 abbrev pub timerRow : ℕ

@@ -36,6 +36,21 @@ pub no-faults : {A : Type 0} (refuse : Refusal → A) (fs : List Fault) (d : A) 
 no-faults refuse [] d n = refl
 no-faults refuse (f ∷ fs) d n = rw (n .0) (no-faults refuse fs d (n .1))
 
+-- what holds of each refusal and of what follows holds of the first fault
+pub first-holds : {A : Type 0} (Q : A → Type 0) (refuse : Refusal → A) → ((f : Refusal) → Q (refuse f)) → (fs : List Fault) (d : A) → Q d → Q (firstFault refuse fs d)
+first-holds Q refuse h [] d q = q
+first-holds Q refuse h (f ∷ fs) d q =
+    elim (f .found) as (λ t. Q (cond t (refuse (f .why)) (firstFault refuse fs d))) [ true ↦ h (f .why) | false ↦ first-holds Q refuse h fs d q ]
+
+-- told in another way
+pub first-told : {A B : Type 0} (g : A → B) (refuse : Refusal → A) (fs : List Fault) (d : A) → g (firstFault refuse fs d) ≡ firstFault (λ f. g (refuse f)) fs (g d)
+first-told g refuse [] d = refl
+first-told g refuse (f ∷ fs) d =
+    elim (f .found) as (λ t. g (cond t (refuse (f .why)) (firstFault refuse fs d)) ≡ cond t (g (refuse (f .why))) (firstFault (λ x. g (refuse x)) fs (g d))) [
+      | true ↦ refl
+      | false ↦ first-told g refuse fs d
+    ]
+
 -- only the own words say how many there are
 pub size-cong : (r : Row) (h : ℕ) (us ws : List ℕ) → take (ownSize r h) us ≡ take (ownSize r h) ws → restSize r h us ≡ restSize r h ws
 size-cong r h us ws e = ap (λ (own : List ℕ). ownSize r h + payload (r .id) h own) e

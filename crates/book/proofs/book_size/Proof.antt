@@ -60,7 +60,6 @@ returns-2 c =
     rw (← l .inv .3, none) (omega (arith, ap total none, l .inv .2))
 
 pub book-size-spec : {M : Type 1} → statement M
-book-size-spec =
-    tie.close
-    (tie.spec Inv-loop μ-loop (λ c. omega arith) (λ c. omega arith) loop-holds (λ c κs. omega arith) add-fits returns add-size-2
-    (λ c. omega arith) (λ c. omega arith) loop-again returns-2)
+book-size-spec = tie.close
+    (tie.spec Inv-loop μ-loop (λ c. omega arith) (λ c. omega arith) loop-holds (λ c κs. omega arith) add-fits returns add-size-2 (λ c. omega arith) (λ c. omega arith)
+    loop-again returns-2)

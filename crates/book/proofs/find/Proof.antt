@@ -24,7 +24,6 @@ returns-3 : tie.Need-returns-3
 returns-3 c = c .look-up .ensures ∙ rw (c .before .if2 .left) at (finds (c .before .before .before .before .before .before .before .before .args .book .now) _ (c .before .before .before .before .before .wide .ensures ∙ c .before .before .before .before .before .before .count .ensures) (c .before .before .before .before .before .before .before .before .args .number) (c .before .before .before .before .if1 .left) (c .before .before .contents-fault .ensures))
 
 pub find-spec : {M : Type 1} → statement M
-find-spec =
-    tie.close
-    (tie.spec (λ c κs. search needs) (λ c κs. search needs) (λ c. search needs) (λ c. search needs) (λ c κs. search needs) returns sub-table sub-table (λ c. search needs) contents-fault-requires
-    (λ c κs. search needs) returns-2 look-up-requires returns-3)
+find-spec = tie.close
+    (tie.spec (λ c κs. search needs) (λ c κs. search needs) (λ c. search needs) (λ c. search needs) (λ c κs. search needs) returns sub-table sub-table
+    (λ c. search needs) contents-fault-requires (λ c κs. search needs) returns-2 look-up-requires returns-3)

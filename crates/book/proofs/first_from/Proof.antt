@@ -33,7 +33,6 @@ returns c =
     record { there = omega (arith, l .inv .0, l .inv .1); before = l .inv .2; behind = λ i h k. l .inv .3 i (omega (arith, c .loop-test .left)) k }
 
 pub first-from-spec : {M : Type 1} → statement M
-first-from-spec =
-    tie.close
+first-from-spec = tie.close
     (tie.spec Inv-loop μ-loop loop-holds (λ c. omega arith) (λ c. omega arith) (λ c. omega arith) (λ c. omega arith) (λ c. omega arith) (λ c. omega arith) loop-again
     (λ c. omega arith) loop-again-2 returns)

@@ -46,7 +46,6 @@ returns-5 c =
     ∙ verdict-is (c .before .before .before .before .before .before .before .before .before .before .before .before .before .args .table .now) (c .before .before .before .before .before .before .before .before .before .before .before .before .before .args .words .now) (c .before .before .before .before .before .before .before .before .before .before .before .before .before .args .book .now) (c .before .before .before .before .before .before .before .before .before .if1 .left) (sym (not-false _ (c .before .before .before .before .before .before .before .if2 .left)) ∙ c .before .before .before .before .before .before .before .before .rises .ensures) (sym (s .0))
 
 pub write-book-spec : {M : Type 1} → statement M
-write-book-spec =
-    tie.close
-    (tie.spec (λ c κs. search needs) returns rises-requires (λ c κs. search needs) returns-2 book-size-requires (λ c κs. search needs) returns-3 (λ c κs. search needs) returns-4 write-scenes-requires
-    (λ c. search needs) returns-5)
+write-book-spec = tie.close
+    (tie.spec (λ c κs. search needs) returns rises-requires (λ c κs. search needs) returns-2 book-size-requires (λ c κs. search needs) returns-3 (λ c κs. search needs)
+    returns-4 write-scenes-requires (λ c. search needs) returns-5)

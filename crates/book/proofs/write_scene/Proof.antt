@@ -47,8 +47,7 @@ returns c =
     )
 
 pub write-scene-spec : {M : Type 1} → statement M
-write-scene-spec =
-    tie.close
-    (tie.spec (λ c κs. search needs) (λ c. search needs) (λ c. search needs) (λ c. search needs) (λ c. search needs) (λ c. search needs) (λ c. search needs) (λ c. search needs)
-    slice-write-book-2 cast-book-2 (λ c. search needs) (λ c. search needs) slice-write-book-3 add-end mul-copy (λ c. search needs) (λ c. search needs) part-copy-end
-    copy-requires add-result same-length returns)
+write-scene-spec = tie.close
+    (tie.spec (λ c κs. search needs) (λ c. search needs) (λ c. search needs) (λ c. search needs) (λ c. search needs) (λ c. search needs) (λ c. search needs)
+    (λ c. search needs) slice-write-book-2 cast-book-2 (λ c. search needs) (λ c. search needs) slice-write-book-3 add-end mul-copy (λ c. search needs)
+    (λ c. search needs) part-copy-end copy-requires add-result same-length returns)

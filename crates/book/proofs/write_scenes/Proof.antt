@@ -26,7 +26,6 @@ returns : tie.Need-returns Inv-loop μ-loop
 returns c = written (c .before .before .before .before .before .pre) (c .before .loop .inv) (c .loop-test .left)
 
 pub write-scenes-spec : {M : Type 1} → statement M
-write-scenes-spec =
-    tie.close
-    (tie.spec Inv-loop μ-loop (λ c. omega arith) (λ c. omega arith) (λ c. omega arith) (λ c. omega arith) loop-holds write-scene-requires (λ c. omega arith) (λ c. omega arith)
-    loop-again same-length returns)
+write-scenes-spec = tie.close
+    (tie.spec Inv-loop μ-loop (λ c. omega arith) (λ c. omega arith) (λ c. omega arith) (λ c. omega arith) loop-holds write-scene-requires (λ c. omega arith)
+    (λ c. omega arith) loop-again same-length returns)

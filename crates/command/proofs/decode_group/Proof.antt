@@ -55,7 +55,6 @@ returns-5 c =
     c .other-command .ensures ∙ sym (group-fixed _ _ _ _ (a .pre .0) (a .fits .id .fits) (a .pre .1) (c .before .before .before .before .before .before .if1 .left) _ (c .before .before .before .before .before .group-at .ensures) (c .before .before .before .before .undefined-bits .ensures) (c .before .before .before .if2 .left) _ refl z)
 
 pub decode-group-spec : {M : Type 1} → statement M
-decode-group-spec =
-    tie.close
+decode-group-spec = tie.close
     (tie.spec add-if1 (λ c κs. search needs) returns (λ c κs. search needs) (λ c κs. search needs) (λ c κs. search needs) refused-fault-requires returns-2
     primitive-command-requires returns-3 load-command-requires returns-4 other-command-requires returns-5)

@@ -24,7 +24,6 @@ returns-2 c =
     ∙ sym (decoded-single _ _ _ _ (a .pre .0) (a .fits .id .fits) (a .pre .1) _ _ _ (c .before .before .before .before .header-of .ensures ∙ ap headerOf (c .before .before .before .before .before .fetch .ensures)) (c .before .before .before .mask .ensures) (c .before .before .undefined .ensures) (c .before .if1 .left))
 
 pub decode-single-spec : {M : Type 1} → statement M
-decode-single-spec =
-    tie.close
+decode-single-spec = tie.close
     (tie.spec (λ c κs. search needs) (λ c κs. search needs) (λ c κs. search needs) (λ c κs. search needs) (λ c κs. search needs) refused-fault-requires returns
     (λ c κs. search needs) returns-2)

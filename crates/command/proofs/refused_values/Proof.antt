@@ -16,6 +16,4 @@ returns : tie.Need-returns
 returns c = c .refused-fault .ensures ∙ ap (λ (f : Refusal). Refused (shift (c .before .before .args .at) f)) (c .before .value-fault .ensures)
 
 pub refused-values-spec : {M : Type 1} → statement M
-refused-values-spec =
-    tie.close
-    (tie.spec (λ c κs. search needs) refused-fault-requires returns)
+refused-values-spec = tie.close (tie.spec (λ c κs. search needs) refused-fault-requires returns)

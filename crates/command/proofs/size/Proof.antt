@@ -21,6 +21,4 @@ returns-2 c =
     sym (single-size (a .args .id) (a .fits .id .fits) (a .args .g .header) (more (a .args .g)) (sym (c .before .is-group .ensures) ∙ c .if1 .left))
 
 pub size-spec : {M : Type 1} → statement M
-size-spec =
-    tie.close
-    (tie.spec (λ c κs. search needs) (λ c κs. search needs) add-result returns returns-2)
+size-spec = tie.close (tie.spec (λ c κs. search needs) (λ c κs. search needs) add-result returns returns-2)

@@ -17,7 +17,6 @@ returns c =
     ∙ rw (c .before .before .before .before .before .header-of .ensures, c .before .before .before .before .before .before .fetch .ensures, c .before .before .before .before .fetch-or-zero .ensures, c .before .before .before .fetch-or-zero2 .ensures, c .before .before .fetch-or-zero3 .ensures) (sym (size-at (a .args .list .now) (a .args .at) _ ei small))
 
 pub size-at-spec : {M : Type 1} → statement M
-size-at-spec =
-    tie.close
+size-at-spec = tie.close
     (tie.spec (λ c κs. search needs) (λ c κs. search needs) (λ c. search needs) (λ c κs. search needs) (λ c. search needs) (λ c κs. search needs) (λ c. search needs)
     (λ c κs. search needs) (λ c κs. search needs) (λ c κs. search needs) returns)

@@ -36,7 +36,6 @@ returns-2 c =
     (c .before .before .before .before .before .before .before .before .before .before .before .before .before .put-verdict .ensures) (c .before .before .before .before .before .before .before .before .before .store .ensures) (not-false _ (c .before .before .before .before .before .before .before .if1 .left)) (c .before .before .put-format .ensures)
 
 pub finish-spec : {M : Type 1} → statement M
-finish-spec =
-    tie.close
-    (tie.spec (λ c κs. search needs) (λ c κs. search needs) (λ c. search needs) (λ c. search needs) returns
-    (λ c. search needs) (λ c. search needs) (λ c. search needs) put-format-requires (λ c. search needs) (λ c. search needs) returns-2)
+finish-spec = tie.close
+    (tie.spec (λ c κs. search needs) (λ c κs. search needs) (λ c. search needs) (λ c. search needs) returns (λ c. search needs) (λ c. search needs) (λ c. search needs)
+    put-format-requires (λ c. search needs) (λ c. search needs) returns-2)

@@ -20,8 +20,7 @@ returns c =
     rw (← c .before .before .before .before .before .before .before .before .before .before .before .from-pci .ensures) (rw (c .before .before .before .before .before .before .before .before .write-values .ensures, f) at (c .before .before .finish .ensures))
 
 pub from-pci-spec : {M : Type 1} → statement M
-from-pci-spec =
-    tie.close
+from-pci-spec = tie.close
     (tie.spec (λ c. search needs) (λ c κs. search needs) (λ c. search needs)
     (λ c κs. omega (arith, c .before .before .before .before .before .before .before .pre, pair-count (c .before .before .before .before .before .before .before .args .pairs .now), length-replicate {A = ℕ} 4096 0))
     (λ c. omega (arith, c .before .before .before .before .before .before .before .before .before .pre, ap length (c .before .write-values .ensures), length-sets (replicate {A = ℕ} 4096 0) 0 (values (c .before .before .before .before .before .before .before .before .before .args .pairs .now)), length-replicate {A = ℕ} 4096 0))

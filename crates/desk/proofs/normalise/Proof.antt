@@ -11,8 +11,7 @@ unfolding perform
 returns c = rw (← c .before .before .before .before .before .before .before .before .normalise .ensures) (c .before .before .finish .ensures)
 
 pub normalise-spec : {M : Type 1} → statement M
-normalise-spec =
-    tie.close
-    (tie.spec (λ c. search needs) (λ c κs. search needs) (λ c. search needs)
-    (λ c. fits-form _ _ _ (c .before .before .normalise .ensures) .inside) (λ c. sym (length-take-le _ _ (fits-form _ _ _ (c .before .before .before .normalise .ensures) .inside)))
+normalise-spec = tie.close
+    (tie.spec (λ c. search needs) (λ c κs. search needs) (λ c. search needs) (λ c. fits-form _ _ _ (c .before .before .normalise .ensures) .inside)
+    (λ c. sym (length-take-le _ _ (fits-form _ _ _ (c .before .before .before .normalise .ensures) .inside)))
     (λ c κs. fits-form _ _ _ (c .before .before .before .before .before .normalise .ensures) .few) (λ c. search needs) returns)

@@ -33,8 +33,7 @@ returns-2 c =
     rw e (c .before .before .perform .ensures)
 
 pub run-spec : {M : Type 1} → statement M
-run-spec =
-    tie.close
+run-spec = tie.close
     (tie.spec (λ c κs. search needs) (λ c κs. search needs) (λ c. search needs) (λ c κs. search needs) (λ c. search needs) (λ c. search needs) (λ c. search needs)
-    (λ c κs. search needs) (λ c. search needs) returns (λ c. search needs) (λ c. search needs) (λ c κs. search needs) (λ c. search needs) (λ c κs. search needs)
-    share aggregate perform-requires (λ c. search needs) returns-2)
+    (λ c κs. search needs) (λ c. search needs) returns (λ c. search needs) (λ c. search needs) (λ c κs. search needs) (λ c. search needs) (λ c κs. search needs) share
+    aggregate perform-requires (λ c. search needs) returns-2)

@@ -11,8 +11,7 @@ unfolding perform
 returns c = rw (← c .before .before .before .before .before .before .before .before .to-pci .ensures) (c .before .before .finish .ensures)
 
 pub to-pci-spec : {M : Type 1} → statement M
-to-pci-spec =
-    tie.close
-    (tie.spec (λ c. search needs) (λ c κs. search needs) (λ c. search needs)
-    (λ c. fits-pairs _ _ _ (c .before .before .to-pci .ensures) .inside) (λ c. sym (length-take-le _ _ (fits-pairs _ _ _ (c .before .before .before .to-pci .ensures) .inside)))
+to-pci-spec = tie.close
+    (tie.spec (λ c. search needs) (λ c κs. search needs) (λ c. search needs) (λ c. fits-pairs _ _ _ (c .before .before .to-pci .ensures) .inside)
+    (λ c. sym (length-take-le _ _ (fits-pairs _ _ _ (c .before .before .before .to-pci .ensures) .inside)))
     (λ c κs. fits-pairs _ _ _ (c .before .before .before .before .before .to-pci .ensures) .few) (λ c. search needs) returns)

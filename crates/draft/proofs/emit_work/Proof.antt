@@ -24,7 +24,5 @@ add-t17 c =
     omega (arith, p .fits, p .command .few, p .command .inside, c .before .before .before .before .before .before .before .before .before .size-at .ensures)
 
 pub emit-work-spec : {M : Type 1} → statement M
-emit-work-spec =
-    tie.close
-    (tie.spec (λ c κs. c .before .before .before .pre .command .start) (λ c κs. search needs) copy-requires (λ c. search needs) add-t17
-    (λ c. search needs) returns)
+emit-work-spec = tie.close
+    (tie.spec (λ c κs. c .before .before .before .pre .command .start) (λ c κs. search needs) copy-requires (λ c. search needs) add-t17 (λ c. search needs) returns)

@@ -36,7 +36,6 @@ returns-3 : tie.Need-returns-3
 returns-3 c = let a = c .before .before .before .before .before .before .before .before .before .before .before .before .before .before in c .before .before .emit-work .ensures ∙ took-work _ _ (record { draft = a .args .d; latest = a .args .latest .now; sent = a .args .sent .now; out = a .args .out .now }) (a .pre) _ _ _ (c .before .before .before .before .before .before .before .before .before .before .fetch .ensures) (c .before .before .before .before .before .before .before .before .before .id-of .ensures) (c .before .before .before .before .before .before .before .before .kind .ensures) (c .before .before .before .before .before .before .before .if1 .left) (c .before .before .before .before .before .before .if2 .left)
 
 pub take-command-spec : {M : Type 1} → statement M
-take-command-spec =
-    tie.close
-    (tie.spec (λ c κs. search needs) (λ c κs. search needs) (λ c κs. search needs) take-setting-requires returns
-    take-setting-requires-2 returns-2 emit-work-requires (λ c. search needs) returns-3)
+take-command-spec = tie.close
+    (tie.spec (λ c κs. search needs) (λ c κs. search needs) (λ c κs. search needs) take-setting-requires returns take-setting-requires-2 returns-2 emit-work-requires
+    (λ c. search needs) returns-3)

@@ -8,7 +8,6 @@ returns : tie.Need-returns
 returns c = (rw (bit-of _ (c .before .before .before .pre .2)), refl)
 
 pub take-setting-spec : {M : Type 1} → statement M
-take-setting-spec =
-    tie.close
-    (tie.spec (λ c. search needs) (λ c. search needs) (λ c. search needs) (λ c. search needs) (λ c. search needs)
-    (λ c. search needs) (λ c. search needs) (λ c. search needs) (λ c. search needs) returns)
+take-setting-spec = tie.close
+    (tie.spec (λ c. search needs) (λ c. search needs) (λ c. search needs) (λ c. search needs) (λ c. search needs) (λ c. search needs) (λ c. search needs)
+    (λ c. search needs) (λ c. search needs) returns)

@@ -20,6 +20,4 @@ unfolding valueFaults
 returns-3 c = rw (ne-eqb _ _ (c .before .pre .0), ne-eqb _ _ (c .before .pre .1), ne-eqb _ _ (c .match .rest .0 .1), ne-eqb _ _ (c .match .rest .1))
 
 pub bad-other-spec : {M : Type 1} → statement M
-bad-other-spec =
-    tie.close
-    (tie.spec (λ c κs. search needs) (λ c κs. search needs) (λ c κs. search needs) (λ c κs. search needs) returns returns-2 returns-3)
+bad-other-spec = tie.close (tie.spec (λ c κs. search needs) (λ c κs. search needs) (λ c κs. search needs) (λ c κs. search needs) returns returns-2 returns-3)

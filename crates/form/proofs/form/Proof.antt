@@ -25,8 +25,7 @@ same-length : tie.Need-same-length Inv-loop μ-loop
 same-length c = ap length (returns c .1) ∙ simp length-sets
 
 pub form-spec : {M : Type 1} → statement M
-form-spec =
-    tie.close
+form-spec = tie.close
     (tie.spec Inv-loop μ-loop (λ c. formed-start _ _ _ (c .before .before .before .pre))
     (λ c κs. formed-can-take _ _ _ (c .before .before .before .before .before .before .before .before .before .pre) _ (c .before .before .before .before .before .loop .inv) (c .before .before .before .if1 .taken))
     loop-less

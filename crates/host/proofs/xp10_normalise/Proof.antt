@@ -7,7 +7,5 @@ returns : tie.Need-returns
 returns c = call-result (c .before .before .before .before .before .before .before .before .before .before .before .before .args .answer .now) (c .before .before .before .before .before .before .normalise .ensures) (c .before .before .write .ensures)
 
 pub xp10-normalise-spec : {M : Type 1} → statement M
-xp10-normalise-spec =
-    tie.close
-    (tie.spec (λ c κs. search needs) (λ c κs. normalise-fits _ _ _ _ (c .before .before .before .normalise .ensures))
-    (λ c. search needs) (λ c. search needs) returns)
+xp10-normalise-spec = tie.close
+    (tie.spec (λ c κs. search needs) (λ c κs. normalise-fits _ _ _ _ (c .before .before .before .normalise .ensures)) (λ c. search needs) (λ c. search needs) returns)

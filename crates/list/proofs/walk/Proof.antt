@@ -45,6 +45,4 @@ returns-2 : tie.Need-returns-2 Inv-loop μ-loop
 returns-2 c = walking-end _ _ (c .before .before .loop .inv) (c .if1 .left)
 
 pub walk-spec : {M : Type 1} → statement M
-walk-spec =
-    tie.close
-    (tie.spec Inv-loop μ-loop start-requires loop-holds step-requires enum-known-s returns enum-known-s-2 loop-less loop-again returns-2)
+walk-spec = tie.close (tie.spec Inv-loop μ-loop start-requires loop-holds step-requires enum-known-s returns enum-known-s-2 loop-less loop-again returns-2)

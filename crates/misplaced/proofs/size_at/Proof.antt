@@ -28,7 +28,6 @@ returns c =
     ∙ rw (c .before .before .before .before .before .header-of .ensures, c .before .before .before .before .before .before .value-at .ensures, c .before .before .before .before .value-or-zero .ensures, c .before .before .before .value-or-zero2 .ensures, c .before .before .value-or-zero3 .ensures) (sym (size-at (values (a .args .pairs .now)) (a .args .at) _ ei small))
 
 pub size-at-spec : {M : Type 1} → statement M
-size-at-spec =
-    tie.close
+size-at-spec = tie.close
     (tie.spec (λ c κs. search needs) (λ c κs. search needs) add-value-or-zero (λ c κs. search needs) add-value-or-zero-2 (λ c κs. search needs) add-value-or-zero-3
     (λ c κs. search needs) (λ c κs. search needs) (λ c κs. search needs) returns)

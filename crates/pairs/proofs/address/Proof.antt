@@ -22,6 +22,4 @@ unfolding address
 returns c = rw (c .address-count .ensures)
 
 pub address-spec : {M : Type 1} → statement M
-address-spec =
-    tie.close
-    (tie.spec (λ c. search needs) (λ c. search needs) (λ c κs. search needs) rem-result cast-result mul-result-2 add-result-2 returns)
+address-spec = tie.close (tie.spec (λ c. search needs) (λ c. search needs) (λ c κs. search needs) rem-result cast-result mul-result-2 add-result-2 returns)

@@ -16,5 +16,4 @@ returns : tie.Need-returns
 returns c = address-of (c .before .args .pairs .now) (c .before .args .at) (c .before .pre)
 
 pub address-at-spec : {M : Type 1} → statement M
-address-at-spec = tie.close
-    (tie.spec mul-result mul-result-2 shared-slice-read-result returns)
+address-at-spec = tie.close (tie.spec mul-result mul-result-2 shared-slice-read-result returns)

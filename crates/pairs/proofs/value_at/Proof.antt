@@ -19,5 +19,4 @@ returns : tie.Need-returns
 returns c = value-of (c .before .args .pairs .now) (c .before .args .at) (c .before .pre)
 
 pub value-at-spec : {M : Type 1} → statement M
-value-at-spec = tie.close
-    (tie.spec mul-result add-result mul-result-2 shared-slice-read-result returns)
+value-at-spec = tie.close (tie.spec mul-result add-result mul-result-2 shared-slice-read-result returns)

@@ -14,6 +14,4 @@ returns-2 : tie.Need-returns-2
 returns-2 c = sym (List·getD-eq-default (values (c .before .before .args .pairs .now)) 0 (omega (arith, c .if1 .left, pair-count (c .before .before .args .pairs .now))))
 
 pub value-or-zero-spec : {M : Type 1} → statement M
-value-or-zero-spec =
-    tie.close
-    (tie.spec value-at-requires (λ c. search needs) returns-2)
+value-or-zero-spec = tie.close (tie.spec value-at-requires (λ c. search needs) returns-2)

@@ -84,7 +84,6 @@ returns-5 c =
     subst (Met (a .args .pairs .now) (a .args .at)) (sym (c .other-command .ensures)) (met-fixed (a .args .pairs .now) (a .args .at) _ _ (a .pre .0) (a .fits .id .fits) (a .pre .1) four _ (c .before .before .before .before .before .before .group-at .ensures) _ refl (not-false _ (both .0)) (c .before .before .before .before .undefined-bits .ensures) (both .1) z)
 
 pub decode-group-spec : {M : Type 1} → statement M
-decode-group-spec =
-    tie.close
+decode-group-spec = tie.close
     (tie.spec sub-if1 (λ c κs. search needs) returns group-at-requires group-placed-requires (λ c κs. search needs) (λ c κs. search needs) refused-fault-requires
     returns-2 primitive-command-requires returns-3 load-command-requires returns-4 other-command-requires returns-5)

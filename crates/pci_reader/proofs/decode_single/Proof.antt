@@ -39,7 +39,6 @@ returns-2 c =
     )
 
 pub decode-single-spec : {M : Type 1} → statement M
-decode-single-spec =
-    tie.close
+decode-single-spec = tie.close
     (tie.spec (λ c κs. search needs) (λ c κs. search needs) (λ c κs. search needs) (λ c κs. search needs) (λ c κs. search needs) (λ c κs. search needs)
     (λ c κs. search needs) refused-fault-requires returns (λ c κs. search needs) returns-2)

@@ -55,5 +55,4 @@ returns c =
     c .before .loop .inv .1 ∙ ap (λ (m : ℕ). sets (a .list .now) 0 (read (values (a .pairs .now)) 0 m)) e ∙ ap (sets (a .list .now) 0) (read-all (values (a .pairs .now)))
 
 pub write-values-spec : {M : Type 1} → statement M
-write-values-spec = tie.close
-    (tie.spec Inv-loop μ-loop loop-holds value-at-requires mul-list slice-write-list add-i loop-less loop-again same-length returns)
+write-values-spec = tie.close (tie.spec Inv-loop μ-loop loop-holds value-at-requires mul-list slice-write-list add-i loop-less loop-again same-length returns)

@@ -20,7 +20,6 @@ returns-3 c =
     command-put _ _ (a .pre .0) _ (c .before .before .before .before .before .before .before .before .fetch .ensures) _ (c .before .before .before .before .before .before .before .id-of .ensures) _ (sym (c .before .before .before .before .before .before .size-at .ensures)) (a .args .pairs .now) _ (c .before .before .write-words .ensures)
 
 pub write-command-spec : {M : Type 1} → statement M
-write-command-spec =
-    tie.close
+write-command-spec = tie.close
     (tie.spec (λ c κs. search needs) (λ c κs. search needs) (λ c κs. search needs) (λ c κs. search needs) (λ c. search needs) (λ c. search needs) returns
     (λ c κs. search needs) (λ c. search needs) (λ c. search needs) returns-2 (λ c κs. search needs) (λ c. search needs) (λ c. search needs) returns-3)

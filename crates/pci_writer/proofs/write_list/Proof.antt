@@ -29,7 +29,6 @@ loop-again c =
     put-on _ _ _ _ _ (c .before .before .before .before .before .loop .inv) (c .before .before .before .before .loop-test .taken) _ _ (c .before .before .write-command .ensures) .1
 
 pub write-list-spec : {M : Type 1} → statement M
-write-list-spec =
-    tie.close
+write-list-spec = tie.close
     (tie.spec Inv-loop μ-loop (λ c. put-start _ _ _ _ (c .before .before .before .pre .0)) write-command-requires loop-less loop-again
     (λ c. put-length _ _ _ _ _ (c .before .loop .inv)) (λ c. put-end _ _ _ _ _ (c .before .loop .inv) (c .loop-test .left)))

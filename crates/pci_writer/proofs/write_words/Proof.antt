@@ -34,8 +34,7 @@ returns c =
     c .before .loop .inv .1 ∙ rw e
 
 pub write-words-spec : {M : Type 1} → statement M
-write-words-spec =
-    tie.close
-    (tie.spec Inv-loop μ-loop (λ c. (omega arith, refl, refl)) (λ c κs. search needs) (λ c. omega arith) (λ c. omega arith) (λ c. omega arith)
-    (λ c. omega arith) (λ c. omega arith) (λ c κs. omega arith) (λ c. omega arith) (λ c. omega arith) (λ c. omega arith) (λ c. omega arith)
-    slice-write-pairs-2 (λ c. omega arith) (λ c. omega arith) loop-again (λ c. c .before .loop .inv .2) returns)
+write-words-spec = tie.close
+    (tie.spec Inv-loop μ-loop (λ c. (omega arith, refl, refl)) (λ c κs. search needs) (λ c. omega arith) (λ c. omega arith) (λ c. omega arith) (λ c. omega arith)
+    (λ c. omega arith) (λ c κs. omega arith) (λ c. omega arith) (λ c. omega arith) (λ c. omega arith) (λ c. omega arith) slice-write-pairs-2 (λ c. omega arith)
+    (λ c. omega arith) loop-again (λ c. c .before .loop .inv .2) returns)

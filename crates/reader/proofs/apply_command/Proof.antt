@@ -36,8 +36,6 @@ apply-work-requires c κs =
     (a .pre, no-member _ (member-at (a .args .list .now) (a .args .at) _ _ (c .before .before .before .before .before .fetch .ensures) (c .before .before .before .before .id-of .ensures) _ (c .before .before .before .contains .ensures) ∙ c .before .before .if1 .left))
 
 pub apply-command-spec : {M : Type 1} → statement M
-apply-command-spec =
-    tie.close
-    (tie.spec (λ c κs. search needs) (λ c κs. search needs) (λ c κs. search needs) (λ c κs. search needs) set-group-requires (λ c. search needs)
-    (λ c. search needs) returns set-single-requires (λ c. search needs) (λ c. search needs) returns-2 apply-work-requires (λ c. search needs)
-    (λ c. search needs) (λ c. search needs))
+apply-command-spec = tie.close
+    (tie.spec (λ c κs. search needs) (λ c κs. search needs) (λ c κs. search needs) (λ c κs. search needs) set-group-requires (λ c. search needs) (λ c. search needs)
+    returns set-single-requires (λ c. search needs) (λ c. search needs) returns-2 apply-work-requires (λ c. search needs) (λ c. search needs) (λ c. search needs))

@@ -45,6 +45,4 @@ returns : tie.Need-returns Inv-loop μ-loop
 returns c = applying-end _ _ _ _ (c .before .before .loop .inv .0) _ _ _ (c .before .before .loop .inv .1) (c .if1 .left)
 
 pub apply-list-spec : {M : Type 1} → statement M
-apply-list-spec =
-    tie.close
-    (tie.spec Inv-loop μ-loop loop-holds apply-command-requires loop-less loop-again same-length same-length-2 returns)
+apply-list-spec = tie.close (tie.spec Inv-loop μ-loop loop-holds apply-command-requires loop-less loop-again same-length same-length-2 returns)

@@ -32,6 +32,4 @@ returns c =
     }
 
 pub apply-work-spec : {M : Type 1} → statement M
-apply-work-spec =
-    tie.close
-    (tie.spec size-at-requires (λ c κs. search needs) write-record-requires add-t12 add-t13 (λ c. search needs) (λ c. search needs) returns)
+apply-work-spec = tie.close (tie.spec size-at-requires (λ c κs. search needs) write-record-requires add-t12 add-t13 (λ c. search needs) (λ c. search needs) returns)

@@ -29,7 +29,6 @@ returns-3 c =
     sym (w ∙ rw (← e, ← c .before .before .before .before .keeps-header .ensures, not-false (c .before .before .before .before .keeps-header .result) (c .before .before .before .if1 .left), ← c .before .before .is-begin .ensures, c .before .if2 .left, c .header-of2 .ensures, c .before .before .before .before .before .before .fetch .ensures))
 
 pub leave-header-spec : {M : Type 1} → statement M
-leave-header-spec =
-    tie.close
+leave-header-spec = tie.close
     (tie.spec (λ c κs. search needs) (λ c κs. search needs) (λ c κs. search needs) returns (λ c κs. search needs) (λ c κs. search needs) (λ c. search needs)
     (λ c. search needs) returns-2 (λ c κs. search needs) (λ c. search needs) (λ c. search needs) (λ c. search needs) (λ c. search needs) returns-3)

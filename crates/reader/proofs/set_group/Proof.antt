@@ -22,6 +22,4 @@ returns c =
     c .before .before .put4 .ensures ∙ rw (c .before .before .before .before .id-of .ensures, c .before .before .before .before .before .fetch .ensures, c .before .before .before .before .before .before .group-at .ensures) (sym (is-group _ _ (a .pre .0) (a .pre .1) .image-is (a .args .image .now)))
 
 pub set-group-spec : {M : Type 1} → statement M
-set-group-spec =
-    tie.close
-    (tie.spec group-at-requires (λ c κs. search needs) (λ c κs. search needs) (λ c. search needs) put4-requires (λ c. search needs) returns)
+set-group-spec = tie.close (tie.spec group-at-requires (λ c κs. search needs) (λ c κs. search needs) (λ c. search needs) put4-requires (λ c. search needs) returns)

@@ -36,7 +36,6 @@ returns-2 c =
     (puts-then (c .before .before .before .before .before .before .before .before .before .before .before .before .put-all .ensures) (puts-then (c .before .before .before .before .before .before .put-records .ensures) (c .before .before .put-counts .ensures)))
 
 pub put-answer-spec : {M : Type 1} → statement M
-put-answer-spec =
-    tie.close
-    (tie.spec (λ c κs. search needs) (λ c κs. search needs) (λ c. search needs) returns (λ c. search needs)
-    (λ c κs. search needs) (λ c. search needs) (λ c. search needs) put-records-requires put-counts-requires (λ c. search needs) returns-2)
+put-answer-spec = tie.close
+    (tie.spec (λ c κs. search needs) (λ c κs. search needs) (λ c. search needs) returns (λ c. search needs) (λ c κs. search needs) (λ c. search needs)
+    (λ c. search needs) put-records-requires put-counts-requires (λ c. search needs) returns-2)

@@ -19,5 +19,4 @@ returns c =
     ap (λ (k : ℕ). record { answer = added (a .s) (a .a) .answer; lists = a .s .lists + k }) (c .before .list-count .ensures)
 
 pub add-spec : {M : Type 1} → statement M
-add-spec = tie.close
-    (tie.spec (λ c. search needs) (λ c. search needs) (λ c. search needs) (λ c κs. search needs) add-t9 returns)
+add-spec = tie.close (tie.spec (λ c. search needs) (λ c. search needs) (λ c. search needs) (λ c κs. search needs) add-t9 returns)

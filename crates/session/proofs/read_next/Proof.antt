@@ -16,7 +16,6 @@ returns c =
     (next-is (a .args .words .now) (a .args .image .now) (a .args .records .now) (a .args .s) _ _ _ (c .before .before .before .before .before .read-pair .ensures) (a .pre .1) _ (c .add .ensures))
 
 pub read-next-spec : {M : Type 1} → statement M
-read-next-spec =
-    tie.close
+read-next-spec = tie.close
     (tie.spec (λ c. search needs) (λ c κs. search needs) (λ c. search needs) (λ c κs. search needs) (λ c. search needs) (λ c. search needs) (λ c. search needs)
     (λ c. search needs) (λ c κs. search needs) add-requires (λ c. search needs) (λ c. search needs) returns)

@@ -20,7 +20,6 @@ returns-2 c =
     call-inside (a .words .now) (a .image .now) (a .records .now) (a .lists) _ _ _ _ (c .before .before .before .before .before .before .before .before .before .before .wide .ensures) (c .before .before .before .before .before .before .before .before .before .wide2 .ensures) _ (c .before .before .before .before .read .ensures) (c .before .before .before .before .before .before .before .before .if1 .left)
 
 pub read-pair-spec : {M : Type 1} → statement M
-read-pair-spec =
-    tie.close
-    (tie.spec (λ c κs. search needs) (λ c κs. search needs) (λ c. search needs) (λ c κs. search needs) returns
-    (λ c. search needs) (λ c. search needs) (λ c. search needs) part-read-end (λ c κs. search needs) (λ c. search needs) (λ c. search needs) returns-2)
+read-pair-spec = tie.close
+    (tie.spec (λ c κs. search needs) (λ c κs. search needs) (λ c. search needs) (λ c κs. search needs) returns (λ c. search needs) (λ c. search needs)
+    (λ c. search needs) part-read-end (λ c κs. search needs) (λ c. search needs) (λ c. search needs) returns-2)

@@ -48,7 +48,6 @@ returns-2 : tie.Need-returns-2 Inv-loop μ-loop
 returns-2 c = standing-end _ _ _ _ _ (c .before .before .loop .inv) (c .if1 .left)
 
 pub read-scenes-spec : {M : Type 1} → statement M
-read-scenes-spec =
-    tie.close
-    (tie.spec Inv-loop μ-loop (λ c κs. search needs) loop-holds read-next-requires same-length same-length-2 returns
-    loop-less loop-again same-length-3 same-length-4 returns-2)
+read-scenes-spec = tie.close
+    (tie.spec Inv-loop μ-loop (λ c κs. search needs) loop-holds read-next-requires same-length same-length-2 returns loop-less loop-again same-length-3 same-length-4
+    returns-2)

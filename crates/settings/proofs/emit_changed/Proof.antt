@@ -10,5 +10,4 @@ returns : tie.Need-returns
 returns c = emit-both (c .before .before .before .before .before .before .before .before .before .before .before .before .before .args .changed) _ _ _ _ _ _ (c .before .before .before .before .before .before .before .emit-singles .ensures) (c .before .before .emit-groups .ensures)
 
 pub emit-changed-spec : {M : Type 1} → statement M
-emit-changed-spec =
-    tie.close (tie.spec (λ c κs. search needs) emit-groups-requires (λ c. search needs) returns)
+emit-changed-spec = tie.close (tie.spec (λ c κs. search needs) emit-groups-requires (λ c. search needs) returns)

@@ -25,10 +25,8 @@ loop-again : tie.Need-loop-again Inv-loop μ-loop
 loop-again c = to-emit-on (c .before .before .before .before .before .before .loop .inv) (c .before .before .before .before .before .loop-test .taken) _ (add-comm (trailingZeros 64 (c .before .before .before .before .before .before .loop .left)) 16) _ (c .before .before .emit-group .ensures) (c .before .before .emit-group .kept .1 .1 .1 .1 .0)
 
 pub emit-groups-spec : {M : Type 1} → statement M
-emit-groups-spec =
-    tie.close
-    (tie.spec Inv-loop μ-loop (λ c. record { small = omega arith; can = c .before .before .before .pre; result = refl; long = refl })
-    (λ c. omega arith) add-emit-group
+emit-groups-spec = tie.close
+    (tie.spec Inv-loop μ-loop (λ c. record { small = omega arith; can = c .before .before .before .pre; result = refl; long = refl }) (λ c. omega arith) add-emit-group
     (λ c κs. to-emit-now (c .before .before .before .loop .inv) (c .before .before .loop-test .taken) _ (add-comm (trailingZeros 64 (c .before .before .before .loop .left)) 16))
-    (λ c. to-emit-less (c .before .before .before .before .before .before .loop .inv) (c .before .before .before .before .before .loop-test .taken) _ refl)
-    loop-again (λ c. c .before .loop .inv .long) (λ c. to-emit-end (c .before .loop .inv) (c .loop-test .left)))
+    (λ c. to-emit-less (c .before .before .before .before .before .before .loop .inv) (c .before .before .before .before .before .loop-test .taken) _ refl) loop-again
+    (λ c. c .before .loop .inv .long) (λ c. to-emit-end (c .before .loop .inv) (c .loop-test .left)))

@@ -19,8 +19,7 @@ returns-2 c =
     _ [] (ap (λ (w : ℕ). w ∷ []) (c .before .before .before .before .before .before .before .fetch .ensures)) (sym (c .before .before .before .before .before .single-is-built .ensures) ∙ c .before .before .before .before .if1 .left) _ (c .before .before .put .ensures)
 
 pub emit-single-spec : {M : Type 1} → statement M
-emit-single-spec =
-    tie.close
-    (tie.spec (λ c. search needs) (λ c. search needs) (λ c. search needs) (λ c κs. search needs) (λ c. search needs)
-    (λ c. search needs) (λ c. search needs) (λ c κs. search needs) returns (λ c. search needs) (λ c. search needs)
-    (λ c. search needs) (λ c. search needs) (λ c κs. search needs) (λ c. search needs) (λ c. search needs) returns-2)
+emit-single-spec = tie.close
+    (tie.spec (λ c. search needs) (λ c. search needs) (λ c. search needs) (λ c κs. search needs) (λ c. search needs) (λ c. search needs) (λ c. search needs)
+    (λ c κs. search needs) returns (λ c. search needs) (λ c. search needs) (λ c. search needs) (λ c. search needs) (λ c κs. search needs) (λ c. search needs)
+    (λ c. search needs) returns-2)

@@ -20,10 +20,8 @@ loop-again : tie.Need-loop-again Inv-loop μ-loop
 loop-again c = to-emit-on (c .before .before .before .before .before .before .loop .inv) (c .before .before .before .before .before .loop-test .taken) _ (sym (zero-add (trailingZeros 64 (c .before .before .before .before .before .before .loop .left)))) _ (c .before .before .emit-single .ensures) (c .before .before .emit-single .kept .1 .1 .1 .1 .0)
 
 pub emit-singles-spec : {M : Type 1} → statement M
-emit-singles-spec =
-    tie.close
-    (tie.spec Inv-loop μ-loop (λ c. record { small = omega arith; can = c .before .before .before .pre; result = refl; long = refl })
-    (λ c. omega arith)
+emit-singles-spec = tie.close
+    (tie.spec Inv-loop μ-loop (λ c. record { small = omega arith; can = c .before .before .before .pre; result = refl; long = refl }) (λ c. omega arith)
     (λ c κs. to-emit-now (c .before .before .before .loop .inv) (c .before .before .loop-test .taken) _ (sym (zero-add (trailingZeros 64 (c .before .before .before .loop .left)))))
-    (λ c. to-emit-less (c .before .before .before .before .before .before .loop .inv) (c .before .before .before .before .before .loop-test .taken) _ refl)
-    loop-again (λ c. c .before .loop .inv .long) (λ c. to-emit-end (c .before .loop .inv) (c .loop-test .left)))
+    (λ c. to-emit-less (c .before .before .before .before .before .before .loop .inv) (c .before .before .before .before .before .loop-test .taken) _ refl) loop-again
+    (λ c. c .before .loop .inv .long) (λ c. to-emit-end (c .before .loop .inv) (c .loop-test .left)))

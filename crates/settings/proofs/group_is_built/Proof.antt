@@ -13,7 +13,5 @@ unfolding isBuilt
 returns-2 c = rw (c .same-group2 .ensures, ne-eqb _ _ (c .before .if1 .left))
 
 pub group-is-built-spec : {M : Type 1} → statement M
-group-is-built-spec =
-    tie.close
-    (tie.spec (λ c κs. search needs) (λ c. search needs) (λ c κs. search needs) (λ c κs. search needs) returns
-    (λ c. search needs) (λ c κs. search needs) returns-2)
+group-is-built-spec = tie.close
+    (tie.spec (λ c κs. search needs) (λ c. search needs) (λ c κs. search needs) (λ c κs. search needs) returns (λ c. search needs) (λ c κs. search needs) returns-2)

@@ -15,7 +15,6 @@ unfolding isBuilt
 returns-2 c = rw (ne-eqb _ _ (c .before .if1 .left), c .fetch .ensures) (and-one _)
 
 pub single-is-built-spec : {M : Type 1} → statement M
-single-is-built-spec =
-    tie.close
-    (tie.spec (λ c κs. search needs) (λ c. search needs) (λ c. search needs) (λ c. search needs)
-    (λ c κs. search needs) returns (λ c. search needs) (λ c κs. search needs) returns-2)
+single-is-built-spec = tie.close
+    (tie.spec (λ c κs. search needs) (λ c. search needs) (λ c. search needs) (λ c. search needs) (λ c κs. search needs) returns (λ c. search needs)
+    (λ c κs. search needs) returns-2)

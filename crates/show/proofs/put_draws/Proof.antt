@@ -20,6 +20,4 @@ unfolding drawsText
 returns c = rw (← c .before .before .before .before .before .before .before .before .before .before .before .before .before .pre .0) (puts-then (c .before .before .before .before .before .before .before .put-all .ensures) (c .before .before .put-records .ensures))
 
 pub put-draws-spec : {M : Type 1} → statement M
-put-draws-spec =
-    tie.close
-    (tie.spec (λ c. search needs) put-all-requires (λ c. search needs) put-records-requires (λ c. puts-length (returns c)) returns)
+put-draws-spec = tie.close (tie.spec (λ c. search needs) put-all-requires (λ c. search needs) put-records-requires (λ c. puts-length (returns c)) returns)

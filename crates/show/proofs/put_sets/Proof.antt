@@ -25,20 +25,11 @@ returns c =
     (puts-then (c .before .before .before .before .before .before .before .before .before .before .before .before .put-all .ensures) (puts-then (c .before .before .before .before .before .before .before .put-changes .ensures) (c .before .before .put-changes2 .ensures)))
 
 pub put-sets-spec : {M : Type 1} → statement M
-put-sets-spec =
-    tie.close
+put-sets-spec = tie.close
     (tie.spec (λ c. search needs)
     (λ c κs. bounded-first head _ (by-id (c .before .before .before .before .before .before .args .before .now) (c .before .before .before .before .before .before .args .after .now) (c .before .before .before .before .before .before .pre .1)))
     (λ c. search needs)
-    (λ c κs.
-    let a = c .before .before .before .before .before .before .before .before .before .before .before in
-    let old = a .args .before .now in
-    let new = a .args .after .now in
-    (a .pre .0, (omega arith, bounded-first (idLines singles 1 old new) (idLines groups 4 old new) (bounded-then head _ (by-id old new (a .pre .1)) (c .before .before .before .before .put-all .ensures)))))
+    (λ c κs. let a = c .before .before .before .before .before .before .before .before .before .before .before in let old = a .args .before .now in let new = a .args .after .now in (a .pre .0, (omega arith, bounded-first (idLines singles 1 old new) (idLines groups 4 old new) (bounded-then head _ (by-id old new (a .pre .1)) (c .before .before .before .before .put-all .ensures)))))
     (λ c. search needs)
-    (λ c κs.
-    let a = c .before .before .before .before .before .before .before .before .before .before .before .before .before .before .before .before in
-    let old = a .args .before .now in
-    let new = a .args .after .now in
-    (a .pre .0, (omega arith, bounded-then (idLines singles 1 old new) (idLines groups 4 old new) (bounded-then head _ (by-id old new (a .pre .1)) (c .before .before .before .before .before .before .before .before .before .put-all .ensures)) (c .before .before .before .before .put-changes .ensures))))
+    (λ c κs. let a = c .before .before .before .before .before .before .before .before .before .before .before .before .before .before .before .before in let old = a .args .before .now in let new = a .args .after .now in (a .pre .0, (omega arith, bounded-then (idLines singles 1 old new) (idLines groups 4 old new) (bounded-then head _ (by-id old new (a .pre .1)) (c .before .before .before .before .before .before .before .before .before .put-all .ensures)) (c .before .before .before .before .put-changes .ensures))))
     (λ c. puts-length (returns c)) returns)

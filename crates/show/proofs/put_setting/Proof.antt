@@ -67,7 +67,6 @@ put-all-requires-2 c κs =
     (c .before .before .before .before .put-words2 .ensures)
 
 pub put-setting-spec : {M : Type 1} → statement M
-put-setting-spec =
-    tie.close
+put-setting-spec = tie.close
     (tie.spec (λ c. search needs) (λ c. search needs) put-format-requires put-words-requires (λ c. search needs) put-all-requires put-words-requires-2
     (λ c. search needs) put-all-requires-2 (λ c. puts-length (returns c)) returns)

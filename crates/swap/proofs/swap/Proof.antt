@@ -23,7 +23,6 @@ returns-4 c =
     c .little-endian3 .ensures ∙ swap-other _ _ (r .0 .0 .1) (r .0 .1) (r .1)
 
 pub swap-spec : {M : Type 1} → statement M
-swap-spec =
-    tie.close
-    (tie.spec (λ c. search needs) (λ c. search needs) (λ c. search needs) (λ c. search needs) (λ c κs. search needs) (λ c κs. search needs)
-    (λ c κs. search needs) returns returns-2 returns-3 returns-4)
+swap-spec = tie.close
+    (tie.spec (λ c. search needs) (λ c. search needs) (λ c. search needs) (λ c. search needs) (λ c κs. search needs) (λ c κs. search needs) (λ c κs. search needs)
+    returns returns-2 returns-3 returns-4)

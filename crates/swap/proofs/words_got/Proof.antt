@@ -33,7 +33,6 @@ returns c =
     l .inv .2 ∙ take-all (l .i) (wordsGot (a .mode) (a .list .now)) (omega (arith, got-length (a .mode) (a .list .now)))
 
 pub words-got-spec : {M : Type 1} → statement M
-words-got-spec =
-    tie.close
-    (tie.spec Inv-loop μ-loop (λ c. (omega arith, refl, refl)) (λ c κs. search needs) (λ c κs. search needs) (λ c. omega arith) (λ c. omega arith)
-    (λ c. omega arith) (λ c. omega arith) loop-again (λ c. sym (length-take-le _ _ (omega arith))) returns)
+words-got-spec = tie.close
+    (tie.spec Inv-loop μ-loop (λ c. (omega arith, refl, refl)) (λ c κs. search needs) (λ c κs. search needs) (λ c. omega arith) (λ c. omega arith) (λ c. omega arith)
+    (λ c. omega arith) loop-again (λ c. sym (length-take-le _ _ (omega arith))) returns)

@@ -8,5 +8,4 @@ unfolding clipBroken
 returns c = rw (c .clash2 .ensures, c .before .before .clash .ensures, c .before .page-limit .ensures)
 
 pub clip-faults-spec : {M : Type 1} → statement M
-clip-faults-spec = tie.close
-    (tie.spec (λ c. search needs) (λ c κs. search needs) (λ c κs. search needs) (λ c κs. search needs) returns)
+clip-faults-spec = tie.close (tie.spec (λ c. search needs) (λ c κs. search needs) (λ c κs. search needs) (λ c κs. search needs) returns)

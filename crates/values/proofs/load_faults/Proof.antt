@@ -9,5 +9,4 @@ unfolding loadBroken
 returns c = rw (c .clash2 .ensures, c .before .before .before .before .clash .ensures, div-one)
 
 pub load-faults-spec : {M : Type 1} → statement M
-load-faults-spec = tie.close
-    (tie.spec (λ c. search needs) (λ c κs. search needs) (λ c κs. search needs) returns)
+load-faults-spec = tie.close (tie.spec (λ c. search needs) (λ c κs. search needs) (λ c κs. search needs) returns)

@@ -18,7 +18,6 @@ unfolding addressLine
 returns-2 c = rw (lt-ltb _ _ (c .before .before .before .before .before .before .before .before .before .if1 .left), ← c .before .before .before .before .before .before .before .wide .ensures) (c .before .before .put-format .ensures)
 
 pub put-address-spec : {M : Type 1} → statement M
-put-address-spec =
-    tie.close
+put-address-spec = tie.close
     (tie.spec returns (λ c. search needs) (λ c. search needs) (λ c. search needs) (λ c κs. search needs) (λ c. search needs) (λ c. search needs) (λ c. search needs)
     put-format-requires (λ c. search needs) returns-2)

@@ -18,6 +18,5 @@ unfolding bitLine
 returns-2 c = rw (ne-eqb _ 32 (c .before .before .before .before .before .before .before .before .if1 .left), ← c .before .before .before .before .wide .ensures) (c .before .before .put-format .ensures)
 
 pub put-bit-spec : {M : Type 1} → statement M
-put-bit-spec =
-    tie.close
+put-bit-spec = tie.close
     (tie.spec returns (λ c. search needs) (λ c. search needs) (λ c κs. search needs) (λ c. search needs) put-format-requires (λ c. search needs) returns-2)

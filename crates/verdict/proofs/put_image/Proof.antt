@@ -18,6 +18,4 @@ unfolding imageLine
 returns-2 c = rw (eq-eqb _ 2 (c .before .before .before .before .before .before .before .if1 .left)) (c .before .before .put-format .ensures)
 
 pub put-image-spec : {M : Type 1} → statement M
-put-image-spec =
-    tie.close
-    (tie.spec returns (λ c. search needs) (λ c. search needs) (λ c. search needs) put-format-requires (λ c. search needs) returns-2)
+put-image-spec = tie.close (tie.spec returns (λ c. search needs) (λ c. search needs) (λ c. search needs) put-format-requires (λ c. search needs) returns-2)

@@ -21,8 +21,7 @@ returns-2 c =
     rw (lt-ltb _ _ (c .before .before .before .before .before .before .before .before .before .before .before .before .before .if1 .left), ← c .before .before .before .before .before .before .before .before .before .before .before .before .start-of .ensures .1, ← c .before .before .before .before .before .before .before .before .id-of .ensures, ← c .before .before .before .before .before .before .before .before .before .before .wide .ensures, ← c .before .before .before .before .before .before .before .commands .ensures) (c .before .before .put-format .ensures)
 
 pub put-place-spec : {M : Type 1} → statement M
-put-place-spec =
-    tie.close
+put-place-spec = tie.close
     (tie.spec returns (λ c κs. search needs) (λ c. search needs) (λ c. search needs) (λ c κs. search needs) (λ c. search needs)
-    (λ c. omega (arith, c .before .before .before .start-of .ensures .0, c .before .before .before .before .if1 .left)) (λ c κs. search needs) (λ c. search needs) (λ c κs. search needs) (λ c. search needs) (λ c. search needs) (λ c. search needs)
-    put-format-requires (λ c. search needs) returns-2)
+    (λ c. omega (arith, c .before .before .before .start-of .ensures .0, c .before .before .before .before .if1 .left)) (λ c κs. search needs) (λ c. search needs)
+    (λ c κs. search needs) (λ c. search needs) (λ c. search needs) (λ c. search needs) put-format-requires (λ c. search needs) returns-2)

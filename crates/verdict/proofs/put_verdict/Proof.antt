@@ -15,8 +15,7 @@ unfolding verdictText
 returns-2 c = rw (eq-eqb _ 0 (c .before .before .before .before .if1 .left)) (c .before .before .put-counts .ensures)
 
 pub put-verdict-spec : {M : Type 1} → statement M
-put-verdict-spec =
-    tie.close
+put-verdict-spec = tie.close
     (tie.spec (λ c κs. search needs) (λ c. search needs) returns
     (λ c κs. record { bound = omega (arith, counts-length (c .before .before .before .before .before .before .args .a .commands) (c .before .before .before .before .before .before .args .a .records)) })
     (λ c. search needs) returns-2)

@@ -11,6 +11,4 @@ returns : tie.Need-returns
 returns c = rw (c .before .before .before .before .record-count .ensures)
 
 pub after-spec : {M : Type 1} → statement M
-after-spec =
-    tie.close
-    (tie.spec (λ c κs. search needs) (λ c. search needs) (λ c. search needs) add-t6 returns)
+after-spec = tie.close (tie.spec (λ c κs. search needs) (λ c. search needs) (λ c. search needs) add-t6 returns)

@@ -17,5 +17,4 @@ returns-2 : tie.Need-returns-2
 returns-2 c = rw (c .after .ensures) (sym (ap (advanced (c .before .before .before .before .before .args .self)) (sym (c .before .before .before .before .in-order .ensures) ∙ c .before .before .e2 .given .1)))
 
 pub take-spec : {M : Type 1} → statement M
-take-spec = tie.close
-    (tie.spec (λ c κs. search needs) (λ c. search needs) (λ c. search needs) after-requires returns returns-2)
+take-spec = tie.close (tie.spec (λ c κs. search needs) (λ c. search needs) (λ c. search needs) after-requires returns returns-2)
