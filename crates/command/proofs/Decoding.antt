@@ -1,19 +1,19 @@
 -- The command at a position of a list, by the tests that the code makes.
-use Prim.Native.Nat.{ℕ, suc, _+_, _*_, _/_, _%_, _^_, _≤_, _<_, _-_}
+use Prim.Native.Nat.{ℕ, suc, _+_, _^_, _≤_, _<_, _-_}
 use native.Mathlib.Nat.{add-zero}
 use native.Mathlib.Numerals.{add-one, add-two, add-three}
 use native.Mathlib.Omega.{arith}
 use mathlib.Core.Path.{_≡_, refl, ap, ap₂, sym, _∙_}
-use mathlib.Core.Bool.{Bool, true, false, cond, not, _||_}
+use mathlib.Core.Bool.{Bool, true, false, cond}
 use mathlib.Core.List.{List, _∷_}
-use mathlib.Core.Option.{Option, none, some}
-use lib.Dec.{eqb, leb, ltb}
+use mathlib.Core.Option.{none}
+use lib.Dec.{ltb}
 use borrow.Author.Tests.{le-ltb, lt-ltb, ltb-true, ltb-false}
-use lib.ListN.{length, getD, take, drop, length-drop, length-take}
+use lib.ListN.{length, getD, take, drop, length-drop}
 use lib.Seq.{drop-cons, length-take-le}
 use Rattle.rules.specs.declared.Refusal.{Refusal}
 use Rattle.rules.specs.Word.{idOf, headerOf, undefined}
-use Rattle.rules.specs.Table.{Row, rowOf, isSetting, isBegin, isBase}
+use Rattle.rules.specs.Table.{rowOf, isSetting, isBegin, isBase}
 use Rattle.rules.specs.Command.{payload, restSize}
 use Rattle.rules.specs.Values.{refusal, undefinedBit, shift, firstFault, faults}
 use Rattle.rules.specs.Decode.{Decoded, bad, good, unknown, decodeRow, decode}

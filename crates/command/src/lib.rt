@@ -7,6 +7,7 @@ ghost use mathlib.Core.Path.{_≡_};
 ghost use mathlib.Core.Bool.{true, false};
 ghost use Prim.Native.Nat.{_+_, _^_, _<_, _≤_};
 ghost use lib.ListN.{length};
+ghost use Rattle.rules.specs.Lent.{given};
 ghost use Rattle.rules.specs.Table.{rowOf};
 ghost use Rattle.rules.specs.Command.{payload, sizeOf};
 ghost use Rattle.rules.specs.Values.{shift};
@@ -36,7 +37,7 @@ pub enum Decoded {
 // The own words of a group.
 pub fn group_at(list: &[u32], at: usize) -> Group
     requires { ⌜ at + 4 ≤ length (now list) ⌝ }
-    ensures { λ r. ⌜ r ≡ groupAt (now (list .entry)) at ⌝ }
+    ensures { λ r. ⌜ r ≡ groupAt (given list) at ⌝ }
 {
     Group {
         header: words::header_of(words::fetch(list, at)),
@@ -70,7 +71,7 @@ pub fn size(id: u8, g: Group) -> usize
 // The words of the command at a position, of one that is cut too.
 pub fn size_at(list: &[u32], at: usize) -> usize
     requires { ⌜ at < length (now list) ⌝ }
-    ensures { λ r. ⌜ r ≡ sizeAt (now (list .entry)) at ⌝ }
+    ensures { λ r. ⌜ r ≡ sizeAt (given list) at ⌝ }
 {
     let w = words::fetch(list, at);
     let g = Group {
@@ -175,7 +176,7 @@ pub fn other_command(at: usize, id: u8, row: u8, g: Group) -> Decoded
 // The same of a load, with its payload: refusal 9 too.
 fn load_command(list: &[u32], at: usize, row: u8, g: Group) -> Decoded
     requires { ⌜ at + 4 ≤ length (now list) ⌝ }
-    ensures { λ r. ⌜ r ≡ ifLegal at 0x40 g (wholeGroup (now (list .entry)) at (4 + payload 0x40 (g .header) (more g)) row) ⌝ }
+    ensures { λ r. ⌜ r ≡ ifLegal at 0x40 g (wholeGroup (given list) at (4 + payload 0x40 (g .header) (more g)) row) ⌝ }
 {
     if faults::any(values::load_faults(g)) {
         return refused_values(at, 0x40, g);
@@ -190,7 +191,7 @@ fn load_command(list: &[u32], at: usize, row: u8, g: Group) -> Decoded
 // A command of one word: refusal 6.
 pub fn decode_single(masks: &Masks, list: &[u32], at: usize, id: u8, row: u8) -> Decoded
     requires { ⌜ KnownAt (now list) at id row × (groupId id ≡ false) × (now masks ≡ maskTable) ⌝ }
-    ensures { λ r. ⌜ r ≡ decodedAt (now (list .entry)) at ⌝ }
+    ensures { λ r. ⌜ r ≡ decodedAt (given list) at ⌝ }
 {
     let header = words::header_of(words::fetch(list, at));
     if masks::undefined(header, masks::mask(masks, row, 0)) {
@@ -202,7 +203,7 @@ pub fn decode_single(masks: &Masks, list: &[u32], at: usize, id: u8, row: u8) ->
 // A command of four words and its payload: refusals 5, 6, 7, 15 to 19 and 9.
 pub fn decode_group(masks: &Masks, list: &[u32], at: usize, id: u8, row: u8) -> Decoded
     requires { ⌜ KnownAt (now list) at id row × (groupId id ≡ true) × (now masks ≡ maskTable) ⌝ }
-    ensures { λ r. ⌜ r ≡ decodedAt (now (list .entry)) at ⌝ }
+    ensures { λ r. ⌜ r ≡ decodedAt (given list) at ⌝ }
 {
     if list.len() < at + 4 {
         return refused(5, at);

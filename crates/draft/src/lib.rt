@@ -4,11 +4,10 @@
 // crates/settings has them.
 use table::Settings;
 ghost use mathlib.Core.Path.{_≡_};
-ghost use Rattle.rules.specs.Lent.{given, left};
-ghost use Prim.Native.Nat.{_+_, _-_, _^_, _<_, _≤_, min};
-ghost use lib.Bits.{bitOr};
+ghost use Prim.Native.Nat.{_+_, _-_, _<_, _≤_, min};
 ghost use lib.ListN.{length, set};
 ghost use lib.Seq.{sets};
+ghost use Rattle.rules.specs.Lent.{given, left};
 ghost use Rattle.rules.specs.Form.{read};
 ghost use Rattle.settings.specs.Numbers.{numberOf};
 ghost use Rattle.settings.specs.Output.{longest};

@@ -3,9 +3,9 @@ use draft::Draft;
 use list::Walked;
 use rules::Answer;
 ghost use mathlib.Core.Path.{_≡_};
-ghost use Rattle.rules.specs.Lent.{given, left};
 ghost use lib.ListN.{length};
 ghost use lib.Seq.{sets};
+ghost use Rattle.rules.specs.Lent.{given, left};
 ghost use Rattle.rules.specs.Answer.{outcome, normalising, measuring, normalForm, IsAccepted};
 
 // The form of an accepted list, written as far as the buffer goes, and its length.

@@ -5,14 +5,13 @@ use native.Mathlib.Omega.{arith}
 use mathlib.Core.Path.{_≡_, refl, ap, ap₂, sym, _∙_, subst}
 use mathlib.Core.Bool.{Bool, true, false, _&&_}
 use mathlib.Core.List.{List, [], _∷_}
-use mathlib.Core.Option.{Option, none, some}
+use mathlib.Core.Option.{none, some}
 use native.Mathlib.Decide.{ℕ-discrete}
-use lib.Dec.{eqb, ltb}
-use borrow.Author.Tests.{eqb-true, eq-eqb, ltb-true, ltb-false}
+use lib.Dec.{eqb}
+use borrow.Author.Tests.{eqb-true, eq-eqb}
 use lib.ListN.{length, getD, drop}
-use Rattle.rules.specs.Word.{idOf, headerOf}
-use Rattle.rules.specs.Table.{Row, rowOf}
-use Rattle.rules.specs.Command.{sizeOf, commandSize}
+use Rattle.rules.specs.Word.{idOf}
+use Rattle.rules.specs.Command.{commandSize}
 use Rattle.rules.specs.Values.{refusal}
 use Rattle.rules.specs.Form.{read}
 use Rattle.rules.specs.Pci.{address, values, Inside, further, ended, expecting, misplaced, outside}

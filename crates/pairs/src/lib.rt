@@ -5,6 +5,7 @@ use table::Group;
 ghost use mathlib.Core.Path.{_≡_};
 ghost use Prim.Native.Nat.{_+_, _<_, _≤_};
 ghost use lib.ListN.{length, getD};
+ghost use Rattle.rules.specs.Lent.{given};
 ghost use Rattle.rules.specs.Pci.{addressCount, address, values};
 ghost use Rattle.table.specs.Tables.{groupAt};
 ghost use Rattle.pairs.specs.View.{addresses};
@@ -28,21 +29,21 @@ pub fn address(id: u8, word: usize) -> u32
 
 pub fn address_at(pairs: &[u32], at: usize) -> u32
     requires { ⌜ at < length (values (now pairs)) ⌝ }
-    ensures { λ r. ⌜ r ≡ getD (addresses (now (pairs .entry))) at 0 ⌝ }
+    ensures { λ r. ⌜ r ≡ getD (addresses (given pairs)) at 0 ⌝ }
 {
     pairs[2 * at]
 }
 
 pub fn value_at(pairs: &[u32], at: usize) -> u32
     requires { ⌜ at < length (values (now pairs)) ⌝ }
-    ensures { λ r. ⌜ r ≡ getD (values (now (pairs .entry))) at 0 ⌝ }
+    ensures { λ r. ⌜ r ≡ getD (values (given pairs)) at 0 ⌝ }
 {
     pairs[2 * at + 1]
 }
 
 // The same, zero past the end.
 pub fn value_or_zero(pairs: &[u32], at: usize) -> u32
-    ensures { λ r. ⌜ r ≡ getD (values (now (pairs .entry))) at 0 ⌝ }
+    ensures { λ r. ⌜ r ≡ getD (values (given pairs)) at 0 ⌝ }
 {
     if at < pairs.len() / 2 {
         return value_at(pairs, at);
@@ -52,7 +53,7 @@ pub fn value_or_zero(pairs: &[u32], at: usize) -> u32
 
 pub fn group_at(pairs: &[u32], at: usize) -> Group
     requires { ⌜ at + 4 ≤ length (values (now pairs)) ⌝ }
-    ensures { λ r. ⌜ r ≡ groupAt (values (now (pairs .entry))) at ⌝ }
+    ensures { λ r. ⌜ r ≡ groupAt (values (given pairs)) at ⌝ }
 {
     Group {
         header: words::header_of(value_at(pairs, at)),

@@ -4,10 +4,10 @@
 use list::Walked;
 use rules::Answer;
 ghost use mathlib.Core.Path.{_≡_};
-ghost use Rattle.rules.specs.Lent.{given, left};
 ghost use Prim.Native.Nat.{_+_, _*_, _<_, _≤_};
 ghost use lib.ListN.{length};
 ghost use lib.Seq.{sets};
+ghost use Rattle.rules.specs.Lent.{given, left};
 ghost use Rattle.rules.specs.Form.{read};
 ghost use Rattle.rules.specs.Answer.{outcome, IsAccepted, commandsFrom};
 ghost use Rattle.rules.specs.Pci.{commandPairs, pairsFrom, pairsAll, toPci};

@@ -1,10 +1,10 @@
 // The listing of a command list, as text in a lent buffer.
 use rules::Answer;
 ghost use mathlib.Core.Path.{_≡_};
-ghost use Rattle.rules.specs.Lent.{given, left};
 ghost use Prim.Native.Nat.{_≤_};
 ghost use lib.Seq.{sets};
 ghost use lib.ListN.{length, take};
+ghost use Rattle.rules.specs.Lent.{given, left};
 ghost use Rattle.rules.specs.Answer.{reading};
 ghost use Rattle.text.specs.Puts.{Puts, Bounded};
 ghost use Rattle.report.specs.Listing.{wordsRead, listed, printing, printed};

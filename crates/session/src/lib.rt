@@ -6,10 +6,10 @@ use rules::NO_BIT;
 use rules::Refusal;
 use rules::SessionAnswer;
 ghost use mathlib.Core.Path.{_≡_};
-ghost use Rattle.rules.specs.Lent.{given, left};
 ghost use mathlib.Core.Bool.{cond};
 ghost use Prim.Native.Nat.{_/_, _≤_, _<_};
 ghost use lib.ListN.{length};
+ghost use Rattle.rules.specs.Lent.{given, left};
 ghost use Rattle.rules.specs.Session.{inSession, noLists, added, pairCall, withPairOf, readingScenes, Bounded};
 ghost use Rattle.rules.specs.Answer.{outcome};
 

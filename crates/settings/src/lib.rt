@@ -5,11 +5,11 @@
 // and where the command stands that the form last put out for it (`sent`: 0 never, else the position + 1). `changed` has a
 // bit for each setting set; rising bits are rising ids. A word past the end of a buffer is not written.
 ghost use mathlib.Core.Path.{_≡_};
-ghost use Rattle.rules.specs.Lent.{given, left};
 ghost use mathlib.Core.List.{[], _∷_};
 ghost use Prim.Native.Nat.{_+_, _<_, _≤_};
 ghost use lib.ListN.{length};
 ghost use lib.Seq.{sets};
+ghost use Rattle.rules.specs.Lent.{given, left};
 ghost use Rattle.rules.specs.Word.{idOf};
 ghost use Rattle.rules.specs.Form.{read, equal};
 ghost use Rattle.settings.specs.Output.{singlesIn, groupsIn, put, longest, isBuilt, emitOne, emitAll, emitChanged, CanEmit, CanEmitAll, CanEmitChanged};

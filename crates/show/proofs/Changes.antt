@@ -1,16 +1,19 @@
 -- The settings that change, one by one.
-use Prim.Native.Nat.{ℕ, zero, suc, _+_, _-_}
+use Prim.Native.Nat.{ℕ, zero, suc, _+_, _-_, _≤_}
 use native.Mathlib.Omega.{arith}
 use native.Mathlib.Numerals.{add-one}
 use mathlib.Core.Path.{_≡_, refl}
 use mathlib.Core.Bool.{true, false}
 use mathlib.Core.List.{List, [], _∷_, _++_}
-use lib.ListN.{length, getD, drop}
+use lib.ListN.{getD}
+use borrow.Author.Tests.{ne-eqb}
+use Rattle.rules.specs.Table.{table, rowOf, settings}
 use Rattle.rules.specs.Form.{read, equal}
 use Rattle.text.specs.Text.{ascii}
 use Rattle.format.specs.Format.{formatted}
-use Rattle.show.specs.Show.{wordsText, settingLine, changeLine}
-use Rattle.show.specs.Changes.{idLines}
+use Rattle.table.specs.Ids.{settingId, groupId, settingKind}
+use Rattle.show.specs.Show.{wordsText, settingLine, changeLine, changeLines}
+use Rattle.show.specs.Changes.{idLine, linesFrom}
 
 module _ (id size : ℕ) (before after : List ℕ) where
   pub change-none : equal (read before id size) (read after id size) ≡ true → changeLine id size before after ≡ []
@@ -21,17 +24,36 @@ module _ (id size : ℕ) (before after : List ℕ) where
   unfolding changeLine
   change-some e = rw e
 
-module _ (size : ℕ) (before after : List ℕ) where
-  pub ids-none : (ids : List ℕ) → length ids ≡ 0 → idLines ids size before after ≡ []
-  unfolding idLines
-  ids-none [] h = refl
-  ids-none (id ∷ ids) h = absurd (omega arith)
+-- of an id, by its kind
+module _ (id : ℕ) (before after : List ℕ) where
+  pub line-none : settingKind id ≡ 0 → idLine id before after ≡ []
+  unfolding idLine
+  line-none e = rw e
 
-  pub ids-more : (ids : List ℕ) → (length ids ≡ 0 → ⊥)
-      → idLines ids size before after ≡ changeLine (getD ids 0 0) size before after ++ idLines (drop 1 ids) size before after
-  unfolding idLines
-  ids-more [] h = absurd (h refl)
-  ids-more (id ∷ ids) h = refl
+  pub line-group : settingKind id ≡ 2 → idLine id before after ≡ changeLine id 4 before after
+  unfolding idLine
+  line-group e = rw e
+
+  pub line-single : (settingKind id ≡ 0 → ⊥) → (settingKind id ≡ 2 → ⊥) → idLine id before after ≡ changeLine id 1 before after
+  unfolding idLine
+  line-single n m = rw (ne-eqb (settingKind id) 0 n, ne-eqb (settingKind id) 2 m)
+
+module _ (before after : List ℕ) where
+  pub lines-none : (id : ℕ) → id ≡ 256 → linesFrom (256 - id) id before after ≡ []
+  unfolding linesFrom
+  lines-none id e = rw e
+
+  pub lines-more : (id : ℕ) → id ≤ 256 → (id ≡ 256 → ⊥)
+      → linesFrom (256 - id) id before after ≡ idLine id before after ++ linesFrom (256 - (id + 1)) (id + 1) before after
+  unfolding linesFrom
+  lines-more id h n =
+      let e : 256 - id ≡ suc (256 - (id + 1)) = omega arith in
+      rw (e, add-one id)
+
+  -- all ids: the settings of the table
+  pub lines-all : linesFrom 256 0 before after ≡ changeLines settings before after
+  unfolding linesFrom idLine settingKind settingId groupId rowOf table changeLines settings
+  lines-all = refl
 
 -- ---- words
 

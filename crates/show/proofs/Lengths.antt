@@ -1,16 +1,20 @@
 -- How long the lines are.
-use Prim.Native.Nat.{ℕ, zero, suc, _+_, _*_, _/_, _%_, _≤_}
+use Prim.Native.Nat.{ℕ, zero, suc, _*_, _/_, _%_, _≤_}
 use native.Mathlib.Omega.{arith}
 use mathlib.Core.Path.{_≡_, refl, ap}
 use mathlib.Core.Bool.{true}
-use mathlib.Core.List.{List, [], _∷_, _++_, append-assoc}
+use mathlib.Core.List.{List, [], _∷_}
+use lib.Dec.{leb}
+use borrow.Author.Tests.{leb-true}
 use lib.ListN.{length, getD, length-append}
 use lib.Seq.{length-take-le}
 use Rattle.rules.specs.declared.Answer.{Answer}
-use Rattle.rules.specs.Table.{settings}
+use Rattle.rules.specs.Table.{Row, table, size, settings}
 use Rattle.rules.specs.Form.{read, equal}
 use Rattle.rules.specs.Records.{records}
 use Rattle.rules.specs.Answer.{Outcome, reading, written}
+use Rattle.theory.proofs.Bools.{and-left, and-right}
+use Rattle.theory.proofs.Rows.{everyRow}
 use Rattle.theory.proofs.Parse.{parse-accepted}
 use Rattle.theory.proofs.Records.{records-few}
 use Rattle.theory.proofs.Verdict.{length-recordWords}
@@ -24,18 +28,6 @@ use Rattle.lines.specs.Lines.{recordLine}
 use Rattle.lines.proofs.Lengths.{counts-length}
 use Rattle.verdict.proofs.Lengths.{names-narrow}
 use Rattle.show.specs.Show.{wordsText, settingLine, changeLine, changeLines, setsText, workLines, drawsText, acceptedText}
-use Rattle.show.specs.Changes.{idLines}
-
--- the settings by their ids: those of one word stand before those of four
-abbrev pub singles : List ℕ
-singles = 0x02 ∷ 0x26 ∷ 0x30 ∷ 0x31 ∷ []
-
-abbrev pub groups : List ℕ
-groups = 0x84 ∷ 0x88 ∷ 0x8C ∷ 0x90 ∷ 0xC4 ∷ []
-
-pub settings-by-id : (before after : List ℕ) → changeLines settings before after ≡ idLines singles 1 before after ++ idLines groups 4 before after
-unfolding changeLines settings idLines
-settings-by-id before after = simp append-assoc
 
 -- ---- how long
 
@@ -54,17 +46,17 @@ module _ (before after : List ℕ) where
       length-cond (equal (read before id size) (read after id size)) [] _ 280 (omega arith)
       (simp length-append (omega (arith, formatted-length commands 21 names-narrow (ascii "%2%n") (id ∷ id ∷ []), words-length before id size, words-length after id size)))
 
-  ids-length : (size : ℕ) → size ≤ 4 → (ids : List ℕ) → length (idLines ids size before after) ≤ 280 * length ids
-  unfolding idLines
-  ids-length size h [] = omega arith
-  ids-length size h (id ∷ ids) =
-      omega (arith, length-append (changeLine id size before after) (idLines ids size before after), change-length id size h, ids-length size h ids)
+  rows-length : (rs : List Row) → everyRow (λ r. leb (size r) 4) rs ≡ true → length (changeLines rs before after) ≤ 280 * length rs
+  unfolding changeLines
+  rows-length [] t = omega arith
+  rows-length (r ∷ rs) t =
+      let h = leb-true (size r) 4 (and-left (leb (size r) 4) _ t) in
+      omega (arith, length-append (changeLine (r .id) (size r) before after) (changeLines rs before after), change-length (r .id) (size r) h, rows-length rs (and-right (leb (size r) 4) _ t))
 
-  pub sets-length : length (setsText before after) ≤ 2560
-  unfolding setsText
-  sets-length =
-      rw (settings-by-id before after)
-      (simp length-append (omega (arith, ids-length 1 (omega arith) singles, ids-length 4 (omega arith) groups)))
+  -- with room for some twenty settings more
+  pub sets-length : length (setsText before after) ≤ 8192
+  unfolding setsText settings table
+  sets-length = simp length-append (omega (arith, rows-length settings refl))
 
 work-length : (id p n h : ℕ) → length (recordLine commands (ascii "%d %2 %d %6%n\n") id p n h) ≤ 73
 unfolding formatted

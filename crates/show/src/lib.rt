@@ -1,16 +1,17 @@
 // What a list sets and draws, as text in a lent buffer. Each part goes from position `at` on, and the answer is the
 // position behind it.
 use rules::Answer;
+use table::Settings;
 ghost use mathlib.Core.Path.{_≡_};
-ghost use Rattle.rules.specs.Lent.{given, left};
-ghost use Prim.Native.Nat.{_+_, _≤_};
+ghost use Prim.Native.Nat.{_+_, _-_, _≤_};
 ghost use lib.ListN.{length, getD};
+ghost use Rattle.rules.specs.Lent.{given, left};
 ghost use Rattle.rules.specs.Form.{read, equal};
 ghost use Rattle.rules.specs.Answer.{outcome, reading};
 ghost use Rattle.text.specs.Puts.{Puts, Bounded};
 ghost use Rattle.names.specs.Names.{commands};
 ghost use Rattle.show.specs.Show.{wordsText, settingLine, changeLine, setsText, drawsText, acceptedText, showText};
-ghost use Rattle.show.specs.Changes.{idLines};
+ghost use Rattle.show.specs.Changes.{idLine, linesFrom};
 
 // ---- settings
 
@@ -88,25 +89,38 @@ fn put_change(
     put_setting(text, at, names, id, size, before, after)
 }
 
-// The settings of some ids, each of as many words.
+// The same by an id: nothing where it is no setting's.
+fn put_id(text: &mut [u8], at: usize, names: &[u8], id: u8, before: &[u32], after: &[u32]) -> usize
+    requires { ⌜ (now names ≡ commands) × Bounded at (idLine id (now before) (now after)) ⌝ }
+    ensures { λ r. ⌜ Puts (idLine id (given before) (given after)) (given text) at (left text) r ⌝ }
+{
+    let kind = Settings::kind(id);
+    if kind == Settings::NONE {
+        return at;
+    }
+    if kind == Settings::GROUP {
+        return put_change(text, at, names, id as usize, 4, before, after);
+    }
+    put_change(text, at, names, id as usize, 1, before, after)
+}
+
+// The settings from an id on.
 fn put_changes(
     text: &mut [u8],
     at: usize,
     names: &[u8],
-    ids: &[u8],
-    size: usize,
+    id: usize,
     before: &[u32],
     after: &[u32],
 ) -> usize
-    requires { ⌜ (now names ≡ commands) × ((size ≤ 4) × Bounded at (idLines (now ids) size (now before) (now after))) ⌝ }
-    ensures { λ r. ⌜ Puts (idLines (given ids) size (given before) (given after)) (given text) at (left text) r ⌝ }
+    requires { ⌜ (now names ≡ commands) × ((id ≤ 256) × Bounded at (linesFrom (256 - id) id (now before) (now after))) ⌝ }
+    ensures { λ r. ⌜ Puts (linesFrom (256 - id) id (given before) (given after)) (given text) at (left text) r ⌝ }
 {
-    if ids.len() == 0 {
+    if id == 256 {
         return at;
     }
-    let id = ids[0] as usize;
-    let next = put_change(text, at, names, id, size, before, after);
-    put_changes(text, next, names, &ids[1..], size, before, after)
+    let next = put_id(text, at, names, id as u8, before, after);
+    put_changes(text, next, names, id + 1, before, after)
 }
 
 fn put_sets(text: &mut [u8], at: usize, names: &[u8], before: &[u32], after: &[u32]) -> usize
@@ -114,16 +128,7 @@ fn put_sets(text: &mut [u8], at: usize, names: &[u8], before: &[u32], after: &[u
     ensures { λ r. ⌜ Puts (setsText (given before) (given after)) (given text) at (left text) r ⌝ }
 {
     let at = text::put_all(text, at, b"sets: id name before -> after\n");
-    let at = put_changes(text, at, names, &[0x02, 0x26, 0x30, 0x31], 1, before, after);
-    put_changes(
-        text,
-        at,
-        names,
-        &[0x84, 0x88, 0x8C, 0x90, 0xC4],
-        4,
-        before,
-        after,
-    )
+    put_changes(text, at, names, 0, before, after)
 }
 
 // ---- the whole

@@ -3,6 +3,7 @@
 // The table of rows is made once for a whole list and lent: a `const` array is built again at each use.
 ghost use mathlib.Core.Path.{_≡_};
 ghost use lib.ListN.{replicate};
+ghost use Rattle.rules.specs.Lent.{left};
 ghost use Rattle.table.specs.Ids.{inSet, beginId, keptId, settingKind, settingId, groupId};
 ghost use Rattle.table.specs.Tables.{rowCount, rowNumber, rowTable};
 ghost use Prim.Native.Nat.{_<_};
@@ -39,7 +40,7 @@ pub const UNKNOWN: u8 = ROWS;
 // store it in many small pieces.
 pub fn fill_rows(rows: &mut [u8; 256])
     requires { ⌜ now rows ≡ replicate 256 rowCount ⌝ }
-    ensures { λ _. ⌜ now (rows .exit) ≡ rowTable ⌝ }
+    ensures { λ _. ⌜ left rows ≡ rowTable ⌝ }
 {
     rows[0x00] = 0;
     rows[0x01] = 1;

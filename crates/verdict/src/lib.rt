@@ -5,6 +5,7 @@ ghost use mathlib.Core.Path.{_≡_};
 ghost use Prim.Native.Nat.{_<_, _≤_};
 ghost use lib.ListN.{length};
 ghost use Rattle.text.specs.Puts.{Puts, Bounded};
+ghost use Rattle.rules.specs.Lent.{given, left};
 ghost use Rattle.rules.specs.Place.{startOf};
 ghost use Rattle.verdict.specs.Verdict.{imageLine, addressLine, placeLines, bitLine, whyLine, refusalText, verdictText};
 
@@ -13,7 +14,7 @@ ghost use Rattle.verdict.specs.Verdict.{imageLine, addressLine, placeLin
 // The first word of the command that word p stands in.
 fn start_of(list: &[u32], p: usize) -> usize
     requires { ⌜ p < length (now list) ⌝ }
-    ensures { λ r. ⌜ (r ≤ p) × (r ≡ startOf (now (list .entry)) p) ⌝ }
+    ensures { λ r. ⌜ (r ≤ p) × (r ≡ startOf (given list) p) ⌝ }
 {
     let mut at = 0;
     while at < p {
@@ -30,7 +31,7 @@ fn start_of(list: &[u32], p: usize) -> usize
 
 fn put_image(text: &mut [u8], at: usize, number: usize, bytes: usize) -> usize
     requires { ⌜ Bounded at (imageLine number bytes) ⌝ }
-    ensures { λ r. ⌜ Puts (imageLine number bytes) (now (text .entry)) at (now (text .exit)) r ⌝ }
+    ensures { λ r. ⌜ Puts (imageLine number bytes) (given text) at (left text) r ⌝ }
 {
     if number != 2 {
         return at;
@@ -40,7 +41,7 @@ fn put_image(text: &mut [u8], at: usize, number: usize, bytes: usize) -> usize
 
 fn put_address(text: &mut [u8], at: usize, pairs: &[u32], p: usize) -> usize
     requires { ⌜ Bounded at (addressLine (now pairs) p) ⌝ }
-    ensures { λ r. ⌜ Puts (addressLine (now (pairs .entry)) p) (now (text .entry)) at (now (text .exit)) r ⌝ }
+    ensures { λ r. ⌜ Puts (addressLine (given pairs) p) (given text) at (left text) r ⌝ }
 {
     if pairs.len() / 2 <= p {
         return at;
@@ -51,7 +52,7 @@ fn put_address(text: &mut [u8], at: usize, pairs: &[u32], p: usize) -> usize
 
 fn put_place(text: &mut [u8], at: usize, list: &[u32], p: usize) -> usize
     requires { ⌜ Bounded at (placeLines (now list) p) ⌝ }
-    ensures { λ r. ⌜ Puts (placeLines (now (list .entry)) p) (now (text .entry)) at (now (text .exit)) r ⌝ }
+    ensures { λ r. ⌜ Puts (placeLines (given list) p) (given text) at (left text) r ⌝ }
 {
     if list.len() <= p {
         return at;
@@ -71,7 +72,7 @@ fn put_place(text: &mut [u8], at: usize, list: &[u32], p: usize) -> usize
 
 fn put_bit(text: &mut [u8], at: usize, bit: u32) -> usize
     requires { ⌜ Bounded at (bitLine bit) ⌝ }
-    ensures { λ r. ⌜ Puts (bitLine bit) (now (text .entry)) at (now (text .exit)) r ⌝ }
+    ensures { λ r. ⌜ Puts (bitLine bit) (given text) at (left text) r ⌝ }
 {
     if bit == NO_BIT {
         return at;
@@ -81,7 +82,7 @@ fn put_bit(text: &mut [u8], at: usize, bit: u32) -> usize
 
 fn put_why(text: &mut [u8], at: usize, number: usize) -> usize
     requires { ⌜ Bounded at (whyLine number) ⌝ }
-    ensures { λ r. ⌜ Puts (whyLine number) (now (text .entry)) at (now (text .exit)) r ⌝ }
+    ensures { λ r. ⌜ Puts (whyLine number) (given text) at (left text) r ⌝ }
 {
     let at = text::put_all(text, at, b"why");
     let at = names::put_refusal(text, at, number);
@@ -91,7 +92,7 @@ fn put_why(text: &mut [u8], at: usize, number: usize) -> usize
 // ---- the verdict
 
 fn put_refusal(text: &mut [u8], a: Answer, list: &[u32], pairs: &[u32], bytes: usize) -> usize
-    ensures { λ r. ⌜ Puts (refusalText a (now (list .entry)) (now (pairs .entry)) bytes) (now (text .entry)) 0 (now (text .exit)) r ⌝ }
+    ensures { λ r. ⌜ Puts (refusalText a (given list) (given pairs) bytes) (given text) 0 (left text) r ⌝ }
 {
     let number = words::wide(a.verdict);
     let at = lines::put_refused(text, number, a.position);
@@ -104,7 +105,7 @@ fn put_refusal(text: &mut [u8], a: Answer, list: &[u32], pairs: &[u32], bytes: u
 
 // The text of an answer on a list, or on pairs and the list that they carry, with an image of some bytes.
 pub fn put_verdict(text: &mut [u8], a: Answer, list: &[u32], pairs: &[u32], bytes: usize) -> usize
-    ensures { λ r. ⌜ Puts (verdictText a (now (list .entry)) (now (pairs .entry)) bytes) (now (text .entry)) 0 (now (text .exit)) r ⌝ }
+    ensures { λ r. ⌜ Puts (verdictText a (given list) (given pairs) bytes) (given text) 0 (left text) r ⌝ }
 {
     if a.verdict != 0 {
         return put_refusal(text, a, list, pairs, bytes);

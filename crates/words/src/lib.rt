@@ -4,19 +4,20 @@ ghost use mathlib.Core.List.{[], _∷_};
 ghost use Prim.Native.Nat.{_+_, _<_, _≤_};
 ghost use lib.ListN.{length, getD, set};
 ghost use lib.Seq.{sets};
+ghost use Rattle.rules.specs.Lent.{given, left};
 ghost use Rattle.rules.specs.Word.{idOf, headerOf};
 
 // A word of a list. Whatever stands above gets the words of a list here.
 pub fn fetch(list: &[u32], at: usize) -> u32
     requires { ⌜ at < length (now list) ⌝ }
-    ensures { λ r. ⌜ r ≡ getD (now (list .entry)) at 0 ⌝ }
+    ensures { λ r. ⌜ r ≡ getD (given list) at 0 ⌝ }
 {
     list[at]
 }
 
 // The same, zero past the end.
 pub fn fetch_or_zero(list: &[u32], at: usize) -> u32
-    ensures { λ r. ⌜ r ≡ getD (now (list .entry)) at 0 ⌝ }
+    ensures { λ r. ⌜ r ≡ getD (given list) at 0 ⌝ }
 {
     if at < list.len() {
         return fetch(list, at);
@@ -45,7 +46,7 @@ pub fn wide(word: u32) -> usize
 
 // A word past the end is not written.
 pub fn put(out: &mut [u32], n: usize, w: u32)
-    ensures { λ _. ⌜ now (out .exit) ≡ set (now (out .entry)) n w ⌝ }
+    ensures { λ _. ⌜ left out ≡ set (given out) n w ⌝ }
 {
     if n < out.len() {
         out[n] = w;
@@ -55,7 +56,7 @@ pub fn put(out: &mut [u32], n: usize, w: u32)
 // Four words from a position on.
 pub fn put4(out: &mut [u32], at: usize, a: u32, b: u32, c: u32, d: u32)
     requires { ⌜ at + 4 ≤ length (now out) ⌝ }
-    ensures { λ _. ⌜ now (out .exit) ≡ sets (now (out .entry)) at (a ∷ b ∷ c ∷ d ∷ []) ⌝ }
+    ensures { λ _. ⌜ left out ≡ sets (given out) at (a ∷ b ∷ c ∷ d ∷ []) ⌝ }
 {
     out[at] = a;
     out[at + 1] = b;

@@ -1,6 +1,6 @@
 use Prim.Native.Nat.{ℕ, _+_}
 use native.Mathlib.Omega.{arith}
-use mathlib.Core.Path.{_≡_, refl, ap, sym, _∙_}
+use mathlib.Core.Path.{refl, ap, sym, _∙_}
 use Rattle.rules.specs.Command.{payload}
 use Rattle.table.specs.Tables.{more}
 use Rattle.faults.proofs.FirstFault.{undefined-near}

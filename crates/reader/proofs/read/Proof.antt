@@ -1,4 +1,3 @@
-use native.Mathlib.Omega.{arith}
 use mathlib.Core.Path.{sym, _∙_}
 use Rattle.list.proofs.Answers.{counts}
 use Rattle.reader.proofs.Reading.{read-refused, read-short, read-fits, read-done}

@@ -1,6 +1,5 @@
 use native.Mathlib.Omega.{arith}
 use mathlib.Core.Path.{ap, sym, _∙_}
-use Prim.Native.Nat.{ℕ}
 use Rattle.table.proofs.Tables.{knownGroupTest, known}
 use Rattle.table.proofs.is_known_group.Statement.{statement}
 use Rattle.table.proofs.is_known_group.Tie as tie
