@@ -14,8 +14,8 @@ ghost use Rattle.rules.specs.Values.{shift};
 ghost use Rattle.rules.specs.Decode.{unknown};
 ghost use Rattle.table.specs.Ids.{groupId};
 ghost use Rattle.table.specs.Tables.{maskTable, more, groupAt};
-ghost use Rattle.command.specs.declared.Decoded.the-variants as decoded;
 ghost use Rattle.faults.specs.Faults.{valueFault};
+ghost use Rattle.command.specs.declared.Decoded.the-variants as decoded;
 ghost use Rattle.command.specs.View.{sizeAt, decodedAt, refusedAt, singleOf, groupOf, ifLegal, wholeGroup, KnownAt};
 
 // A decoded command: its words with payload, and whether it is a setting, a BEGIN, a surface base.
@@ -200,7 +200,8 @@ pub fn decode_single(masks: &Masks, list: &[u32], at: usize, id: u8, row: u8) ->
     single_command(row)
 }
 
-// A command of four words and its payload: refusals 5, 6, 7, 15 to 19 and 9.
+// A command of four words and its payload: refusals 5, 6, 7, 15 to 19 and 9. Which is asked for first decides what the compiler
+// inlines (docs/DECISIONS.md): measure a change.
 pub fn decode_group(masks: &Masks, list: &[u32], at: usize, id: u8, row: u8) -> Decoded
     requires { ⌜ KnownAt (now list) at id row × (groupId id ≡ true) × (now masks ≡ maskTable) ⌝ }
     ensures { λ r. ⌜ r ≡ decodedAt (given list) at ⌝ }

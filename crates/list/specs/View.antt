@@ -74,7 +74,7 @@ abbrev pub InsideAfter : Cursor → Decoded → Type 0
 InsideAfter c (decoded.Refused f) = Unit {0}
 InsideAfter c (decoded.Command k) = Addressable (c .at + k .words)
 
--- a state of the rules that a cursor stands for: what the cursor holds of it, and what it need not hold
+-- the states of the rules that a cursor stands for: those with its flip, whatever the image
 pub record StandsFor (c : Cursor) (s : State) : Type 0 where
   pub flip : c .flip ≡ s .order .flip
 

@@ -16,12 +16,12 @@ ghost use lib.Seq.{sets};
 ghost use Rattle.rules.specs.Lent.{given, left};
 ghost use Rattle.rules.specs.Command.{payload};
 ghost use Rattle.rules.specs.Pci.{values, parsePairs, fromPci};
+ghost use Rattle.rules.specs.Answer.{outcome};
 ghost use Rattle.table.specs.Ids.{groupId};
 ghost use Rattle.table.specs.Tables.{rowTable, maskTable, more};
 ghost use Rattle.command.specs.View.{ifLegal, KnownAt};
 ghost use Rattle.list.specs.View.{walkedOf, Walks, Counted};
 ghost use Rattle.pci_reader.specs.View.{Met, placedGroup, walkPairs, Stepped};
-ghost use Rattle.rules.specs.Answer.{outcome};
 
 // A command of one word. Where a pair is out of place, here and below, any refusal will do: 13 or 14 comes before it.
 fn decode_single(masks: &Masks, pairs: &[u32], at: usize, id: u8, row: u8) -> Decoded

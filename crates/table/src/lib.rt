@@ -2,11 +2,11 @@
 //
 // The table of rows is made once for a whole list and lent: a `const` array is built again at each use.
 ghost use mathlib.Core.Path.{_≡_};
+ghost use Prim.Native.Nat.{_<_};
 ghost use lib.ListN.{replicate};
 ghost use Rattle.rules.specs.Lent.{left};
 ghost use Rattle.table.specs.Ids.{inSet, beginId, keptId, settingKind, settingId, groupId};
 ghost use Rattle.table.specs.Tables.{rowCount, rowNumber, rowTable};
-ghost use Prim.Native.Nat.{_<_};
 
 // The own words of a command of four words: the header, and the next three words.
 pub struct Group {
