@@ -28,11 +28,7 @@ fn link(folder: &Path, library: &str) {
 fn main() {
     let folder = |name: &str| env::var_os(name).map(PathBuf::from);
     let host = folder("HOST_LIB").unwrap_or_else(|| folder("CARGO_MANIFEST_DIR").unwrap().join("../target/staticlib"));
-    if host.join("libhost.a").exists() {
-        link(&host, "host");
-    } else {
-        println!("cargo:warning=no proved library in {}: only the tests of the Rust can be linked", host.display());
-    }
+    link(&host, "host");
     println!("cargo:rerun-if-changed={}", host.join("libhost.a").display());
     println!("cargo:rerun-if-env-changed=HOST_LIB");
     println!("cargo:rerun-if-env-changed=BEFORE_LIB");

@@ -4,8 +4,8 @@
 usage: python3 tools/edits.py lay [FOLDER]       before it: each edit's changed file lies beside the file, as one more file of the crate
        python3 tools/edits.py take [FOLDER]      behind it: each edit is what differs now between the two; the laid files are gone
 
-FOLDER: the top of the repository, by default the current folder. An edit's words that are no line of its file stay as they are. Where
-what differs is no line that stands once in the file, the edit is named and left as it was.
+FOLDER: the top of the repository, by default the current folder. An edit that still says the same stays as it is. Where what differs is
+no line that stands once in the file, the edit is named and left as it was.
 """
 
 import difflib
@@ -74,9 +74,14 @@ def take(root):
             print(f"{path}: nothing laid")
             continue
         text = read(whole)
-        now = text
-        found = changes(text, read(laid))
+        now, same = text, text
+        for old, new in pairs:
+            same = same.replace(old, new) if same.count(old) == 1 else ""
+        changed = read(laid)
         os.remove(laid)
+        if same == changed:
+            continue
+        found = changes(text, changed)
         good = bool(found)
         for old, new in found or []:
             old, new = (x.strip() for x in (old, new))

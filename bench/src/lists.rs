@@ -65,24 +65,6 @@ fn begin(random: &mut Random, list: &mut Vec<u32>) {
     ]);
 }
 
-/// A surface table of 1 to 48 entries, in rising address.
-pub fn table(random: &mut Random, list: &mut Vec<u32>) {
-    let last = random.below(48);
-    let mut base = 0;
-    for n in 0..=last {
-        let total = if n == 0 { last } else { 0 };
-        let mode = random.below(8);
-        let tiled = if matches!(mode, 1 | 3 | 5) { random.below(2) } else { 0 };
-        let end = base + random.below(1024);
-        list.extend([
-            0x3400_0000 | random.below(2) << 23 | total << 16 | mode << 12 | random.next() & 0x8FFF,
-            tiled << 26 | random.next() & 0x03FF_FFFF,
-            base << 16 | end,
-        ]);
-        base = end + 1 + random.below(256);
-    }
-}
-
 /// An item of work.
 fn work(random: &mut Random, list: &mut Vec<u32>, longest: u32) {
     match random.below(12) {
@@ -109,8 +91,6 @@ enum Order {
     Some,
     /// A few, in any order.
     Any,
-    /// All of them, in rising id, and then a surface table.
-    Tables,
 }
 
 /// A list of at most `words` words, and near to that many where there is room: settings, then work, again and again.
@@ -125,13 +105,10 @@ fn list(random: &mut Random, words: usize, order: Order, most: u32, longest: u32
             }
         } else {
             for which in 0..9 {
-                if order != Order::Some || random.below(2) == 0 {
+                if order == Order::All || random.below(2) == 0 {
                     setting(random, &mut list, which);
                 }
             }
-        }
-        if order == Order::Tables {
-            table(random, &mut list);
         }
         work(random, &mut list, longest);
         if list.len() > words {
@@ -169,13 +146,6 @@ pub fn mixed_scenes() -> Vec<Vec<u32>> {
 /// The same, with loads of up to 256 words.
 pub fn loaded_scenes() -> Vec<Vec<u32>> {
     scenes(5, Order::Any, 63)
-}
-
-/// Scenes of about 4,096 words with all settings, a surface table and another item of work in turn: about seven words in
-/// ten are of tables.
-pub fn table_scenes() -> Vec<Vec<u32>> {
-    let mut random = Random::new(9);
-    (0..24).map(|_| list(&mut random, 4096, Order::Tables, 0, 8)).collect()
 }
 
 /// Lists under 20 words.

@@ -7,7 +7,6 @@ mod lists;
 mod pci;
 mod rust;
 mod scenes;
-mod tables;
 
 #[cfg(before)]
 use library::before;
@@ -138,14 +137,14 @@ fn swapped(list: &[u32], mode: u32) -> Vec<u32> {
 }
 
 /// Compares on each list and its pairs as they are, and on spoilt copies with buffers and images of other sizes, in mode
-/// 0 and in another. The library before takes part where its answer must be the same, accepted lists and five numbers,
-/// and only if `all` counts it. Gives the number of lists compared.
-fn compare_all(lists: &[Vec<u32>], all: usize) -> usize {
+/// 0 and in another. The library before takes part where its answer must be the same: accepted lists, and five numbers.
+/// Gives the number of lists compared.
+fn compare_all(lists: &[Vec<u32>]) -> usize {
     let mut random = Random::new(3);
     let mut done = 0;
     for list in lists {
         let image: Vec<u32> = (0..256).map(|_| random.below(4)).collect();
-        for (count, numbers) in [(2, 6), (all, 5)] {
+        for (count, numbers) in [(2, 6), (COUNT, 5)] {
             compare(count, list, &image, list.len().max(4096) * 4, numbers);
             compare_pairs(count, &pairs_of(list), &image, list.len(), numbers);
         }
@@ -269,10 +268,10 @@ where
     line(name, unit, units, &times);
 }
 
-fn time_measure<const N: usize>(rounds: usize, name: &str, lists: &[Vec<u32>]) {
+fn time_measure(rounds: usize, name: &str, lists: &[Vec<u32>]) {
     let image = [0u32; 256];
     let mut answer = [0u32; 6];
-    let times: [_; N] = time(rounds, |which| {
+    let times: [_; MEASURES] = time(rounds, |which| {
         for list in lists {
             black_box(MEASURE[which](list, &image, &mut answer));
         }
@@ -286,25 +285,19 @@ fn before_swaps() -> bool {
     READ[2..].iter().any(|read| read(&[], &mut [0; 256], &mut [], &mut [0; 6], 4) == 21)
 }
 
-/// The library before accepts surface tables, where there is one.
-fn before_has_tables() -> bool {
-    READ[2..].iter().any(|read| read(&[0x3400_0000, 0, 0], &mut [0; 256], &mut [0; 4], &mut [0; 6], 0) == 0)
-}
-
-/// Times the first N implementations of the functions on lists of one kind, or M where some may not measure, the reader
-/// and the normaliser in mode 3 too.
-fn time_lists<const N: usize, const M: usize>(rounds: usize, name: &str, lists: &[Vec<u32>]) {
-    time_read::<N>(rounds, &format!("read, {name}"), 0, lists);
-    time_measure::<M>(rounds, &format!("measure, {name}"), lists);
-    time_writers::<N, _>(rounds, &format!("normalise, {name}"), &normalisers(0), lists, lists);
-    time_writers::<N, _>(rounds, &format!("to_pci, {name}"), &TO_PCI, lists, lists);
+/// Times the functions on lists of one kind, the reader and the normaliser in mode 3 too.
+fn time_lists(rounds: usize, name: &str, lists: &[Vec<u32>]) {
+    time_read::<COUNT>(rounds, &format!("read, {name}"), 0, lists);
+    time_measure(rounds, &format!("measure, {name}"), lists);
+    time_writers::<COUNT, _>(rounds, &format!("normalise, {name}"), &normalisers(0), lists, lists);
+    time_writers::<COUNT, _>(rounds, &format!("to_pci, {name}"), &TO_PCI, lists, lists);
     let pairs: Vec<_> = lists.iter().map(|list| pairs_of(list)).collect();
-    time_writers::<N, _>(rounds, &format!("from_pci, {name}"), &FROM_PCI, &pairs, lists);
+    time_writers::<COUNT, _>(rounds, &format!("from_pci, {name}"), &FROM_PCI, &pairs, lists);
     let reversed: Vec<_> = lists.iter().map(|list| swapped(list, 3)).collect();
     let (read, normalise) = (format!("read in mode 3, {name}"), format!("normalise in mode 3, {name}"));
     if before_swaps() {
-        time_read::<N>(rounds, &read, 3, &reversed);
-        time_writers::<N, _>(rounds, &normalise, &normalisers(3), &reversed, lists);
+        time_read::<COUNT>(rounds, &read, 3, &reversed);
+        time_writers::<COUNT, _>(rounds, &normalise, &normalisers(3), &reversed, lists);
     } else {
         time_read::<2>(rounds, &read, 3, &reversed);
         time_writers::<2, _>(rounds, &normalise, &normalisers(3), &reversed, lists);
@@ -321,11 +314,7 @@ fn main() {
         ("scenes, large loads", lists::loaded_scenes()),
         ("short lists", short.clone()),
     ];
-    let (tables, with_tables) = (lists::table_scenes(), before_has_tables());
-    let compared = compare_commands()
-        + tables::compare()
-        + groups.iter().map(|(_, lists)| compare_all(lists, COUNT)).sum::<usize>()
-        + compare_all(&tables, if with_tables { COUNT } else { 2 });
+    let compared = compare_commands() + groups.iter().map(|(_, lists)| compare_all(lists)).sum::<usize>();
     let sessions = scenes::compare(&short);
     let long: Vec<_> = groups[..4].iter().flat_map(|(_, lists)| lists).cycle().take(books::SCENES).cloned().collect();
     let short_book = &short[..books::SCENES];
@@ -334,15 +323,7 @@ fn main() {
     print!("{:<40} {:>9} {:>9}  {:<12} {:>6}", "", "proved", "Rust", "", "ratio");
     println!("{}", if cfg!(before) { "    before  ratio" } else { "" });
     for (name, lists) in &groups {
-        time_lists::<COUNT, MEASURES>(rounds, name, lists);
-    }
-    if with_tables {
-        time_lists::<COUNT, MEASURES>(rounds, "scenes, tables", &tables);
-    } else {
-        if cfg!(before) {
-            println!("the library before refuses surface tables, and is left out where there are any:");
-        }
-        time_lists::<2, 2>(rounds, "scenes, tables", &tables);
+        time_lists(rounds, name, lists);
     }
     scenes::time_dozens(rounds, &short);
     books::time_books(rounds, short_book, &long);

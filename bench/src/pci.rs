@@ -3,12 +3,11 @@
 #![forbid(unsafe_code)]
 
 use crate::rust::{
-    check_load, check_raster_mode, check_window_clip, entry_wrong, first_entry_wrong, give, group_size, refuse,
-    refused, split, table_size, whole_size, Counts, Kind, Refusal, IMAGE, LIMIT, LOAD, NO_BIT, PRIMITIVE, RASTER_MODE,
-    ROWS, TABLE, WINDOW_CLIP,
+    check_load, check_raster_mode, check_window_clip, give, group_size, refuse, refused, split, Counts, Kind, Refusal,
+    IMAGE, LIMIT, LOAD, NO_BIT, PRIMITIVE, RASTER_MODE, ROWS, WINDOW_CLIP,
 };
 
-/// The size in words of each id's command, without payload. The surface table has a size of its own.
+/// The size in words of each id's command, without payload.
 static SIZES: [u8; 256] = sizes();
 
 const fn sizes() -> [u8; 256] {
@@ -29,16 +28,14 @@ fn address(first: u32) -> u32 {
     0x2800 + (first >> 24) * 4
 }
 
-/// The address of a command's word of this number.
-fn address_of(first: u32, word: usize) -> u32 {
-    let again = if first >> 24 == TABLE as u32 { 3 } else { 4 };
-    address(first) + 4 * (word as u32 % again)
-}
-
 /// The size in words of a command, known or not.
 fn size(first: u32) -> usize {
     let (id, header, row) = split(first);
-    whole_size(id, header, row)
+    if row.size == 4 {
+        group_size(id, header)
+    } else {
+        1
+    }
 }
 
 /// The pairs of any list, to time and to spoil. Its last command may be cut.
@@ -47,65 +44,28 @@ pub fn pairs_of(list: &[u32]) -> Vec<u32> {
     let mut rest = list;
     while let Some(&first) = rest.first() {
         let (words, after) = rest.split_at(size(first).min(rest.len()));
-        pairs.extend(words.iter().enumerate().flat_map(|(i, &word)| [address_of(first, i), word]));
+        pairs.extend((0..).zip(words).flat_map(|(i, &word)| [address(first) + 4 * (i % 4), word]));
         rest = after;
     }
     pairs
-}
-
-/// The word of a list's item (N = 1) or of a pair (N = 2).
-#[inline(always)]
-fn value<const N: usize>(item: &[u32; N]) -> u32 {
-    item[N - 1]
-}
-
-/// Not zero where a pair is not at this address. A list's item has none.
-#[inline(always)]
-fn astray<const N: usize>(item: &[u32; N], address: u32) -> u32 {
-    if N == 2 {
-        item[0] ^ address
-    } else {
-        0
-    }
-}
-
-/// Checks a surface table and its addresses, and gives its size where it breaks no rule. It is a call, and marked cold,
-/// so that the loop over commands keeps its registers and puts them aside only for a table.
-#[cold]
-#[inline(never)]
-fn check_table<const N: usize>(header: u32, rest: &[[u32; N]]) -> Option<usize> {
-    let size = table_size(header);
-    let (first, later) = rest.get(..size)?.as_chunks::<3>().0.split_first()?;
-    let words = |entry: &[[u32; N]; 3]| [value(&entry[0]), value(&entry[1]), value(&entry[2])];
-    let a = address((TABLE as u32) << 24);
-    let strayed = |entry: &[[u32; N]; 3]| astray(&entry[0], a) | astray(&entry[1], a + 4) | astray(&entry[2], a + 8);
-    let wrong = later.iter().fold(first_entry_wrong(words(first)) | strayed(first), |wrong, entry| {
-        wrong | entry_wrong(words(entry)) | strayed(entry)
-    });
-    (wrong == 0).then_some(size)
 }
 
 /// Checks a list (N = 1) or pairs (N = 2) in one pass. Gives the start of the first command that fails; its number is
 /// found out afterwards.
 #[inline(always)]
 fn walk<const N: usize>(all: &[[u32; N]]) -> Result<Counts, usize> {
+    let value = |item: &[u32; N]| item[N - 1];
+    let astray = |item: &[u32; N], address: u32| if N == 2 { item[0] ^ address } else { 0 };
     let mut counts = Counts { commands: 0, records: 0 };
     let mut rest = all;
     let mut flip = false;
-    while let Some((item, mut tail)) = rest.split_first() {
+    while let Some((item, tail)) = rest.split_first() {
         let first = value(item);
         let (id, header, row) = split(first);
         let a = address(first);
         let wrong = astray(item, a) | (header & !row.masks[0]);
         if wrong != 0 || row.kind == Kind::Unknown || (flip && row.kind != Kind::Begin) {
-            if id != TABLE || flip {
-                break;
-            }
-            let Some(size) = check_table(header, rest) else {
-                break;
-            };
-            // From here on as a command of one word, with another tail.
-            tail = &rest[size..];
+            break;
         }
         counts.commands += 1;
         if row.size == 1 {
@@ -153,15 +113,6 @@ fn walk<const N: usize>(all: &[[u32; N]]) -> Result<Counts, usize> {
     }
 }
 
-/// Writes the pairs of a surface table.
-#[inline(never)]
-fn write_table(table: &[u32], pairs: &mut [Pair]) {
-    let a = address((TABLE as u32) << 24);
-    for (group, &[first, second, third]) in pairs.as_chunks_mut::<3>().0.iter_mut().zip(table.as_chunks::<3>().0) {
-        *group = [[a, first], [a + 4, second], [a + 8, third]];
-    }
-}
-
 /// Writes the pairs of an accepted list, in a buffer of as many pairs.
 #[inline(always)]
 fn write_pairs(mut list: &[u32], mut pairs: &mut [Pair]) {
@@ -181,9 +132,6 @@ fn write_pairs(mut list: &[u32], mut pairs: &mut [Pair]) {
                     *pair = [a + 4 * (i as u32 % 4), word];
                 }
             }
-        } else if id == TABLE {
-            size = table_size(first);
-            write_table(&list[..size], &mut pairs[..size]);
         } else {
             pairs[0] = [a, first];
         }
@@ -217,7 +165,7 @@ fn misplaced(mut pairs: &[Pair], mut at: usize) -> Option<Refusal> {
     while let Some(&[_, first]) = pairs.first() {
         let size = size(first);
         let (there, rest) = pairs.split_at(size.min(pairs.len()));
-        if let Some(i) = (0..there.len()).find(|&i| there[i][0] != address_of(first, i)) {
+        if let Some(i) = (0..there.len()).find(|&i| there[i][0] != address(first) + 4 * (i as u32 % 4)) {
             return Some(Refusal::new(13, at + i));
         }
         if there.len() < size {

@@ -41,12 +41,10 @@ const fn four(masks: [u32; 4], kind: Kind) -> Row {
 
 pub const LOAD: u8 = 0x40;
 pub const PRIMITIVE: u8 = 0x48;
-pub const TABLE: u8 = 0x34;
 pub const WINDOW_CLIP: u8 = 0x84;
 pub const RASTER_MODE: u8 = 0x88;
 
-/// The row of each id. The surface table has none: it is asked for where an id has no row, so that no other command waits
-/// for it.
+/// The row of each id.
 pub static ROWS: [Row; 256] = rows();
 
 const fn rows() -> [Row; 256] {
@@ -196,88 +194,6 @@ pub fn group_size(id: u8, header: u32) -> usize {
     }
 }
 
-/// The defined bits of an entry of a surface table, those of the id among them.
-const ENTRY_MASKS: [u32; 3] = [0xFFBF_FFFF, 0x07FF_FFFF, ANY];
-/// Total_Entry, in an entry's first word.
-const TOTAL_ENTRY: u32 = 63 << 16;
-/// The most that it may be.
-const MOST: u32 = 47;
-
-/// The size in words of a surface table.
-pub fn table_size(header: u32) -> usize {
-    3 + 3 * ((header & TOTAL_ENTRY) >> 16) as usize
-}
-
-/// The size in words, with payload, of a command.
-#[inline(always)]
-pub fn whole_size(id: u8, header: u32, row: &Row) -> usize {
-    if row.size == 4 {
-        group_size(id, header)
-    } else if id == TABLE {
-        table_size(header)
-    } else {
-        1
-    }
-}
-
-/// Not zero where a later entry of a surface table breaks a rule of any number: all in one test.
-#[inline(always)]
-pub fn entry_wrong([first, second, third]: [u32; 3]) -> u32 {
-    let entry = (first ^ (TABLE as u32) << 24) & (0xFF40_0000 | TOTAL_ENTRY);
-    // Modes 1, 3 and 5 are the odd ones but 7: bit 12 moved to bit 26, unless bits 13 and 14 are both set.
-    let may_be_tiled = first << 14 & !(first << 13 & first << 12) & 1 << 26;
-    let second = second & !(0x03FF_FFFF | may_be_tiled);
-    let end_below_base = (third & 0xFFFF).wrapping_sub(third >> 16) & 1 << 31;
-    entry | second | end_below_base
-}
-
-/// The same of the first entry, by its own rule for Total_Entry.
-#[inline(always)]
-pub fn first_entry_wrong([first, second, third]: [u32; 3]) -> u32 {
-    let over = (first & TOTAL_ENTRY > MOST << 16) as u32;
-    over | entry_wrong([first & !TOTAL_ENTRY, second, third])
-}
-
-/// Checks a surface table, and gives its size where it breaks no rule. It is a call, and marked cold, so that the loop
-/// over commands keeps its registers and puts them aside only for a table.
-#[cold]
-#[inline(never)]
-fn check_table<const MODE: u32>(header: u32, rest: &[u32]) -> Option<usize> {
-    let size = table_size(header);
-    let (first, later) = rest.get(..size)?.as_chunks::<3>().0.split_first()?;
-    let wrong = later
-        .iter()
-        .fold(first_entry_wrong(first.map(got::<MODE>)), |wrong, entry| wrong | entry_wrong(entry.map(got::<MODE>)));
-    (wrong == 0).then_some(size)
-}
-
-/// The refusal of a surface table by itself.
-fn table_refusal<const MODE: u32>(words: &[u32], at: usize) -> Option<Refusal> {
-    let Some(words) = words.get(..table_size(got::<MODE>(words[0]))) else {
-        return Some(Refusal::new(5, at));
-    };
-    let words: Vec<u32> = words.iter().map(|&word| got::<MODE>(word)).collect();
-    let outside = |i: usize| words[i] & !ENTRY_MASKS[i % 3];
-    if let Some(i) = (0..words.len()).find(|&i| outside(i) != 0) {
-        return Some(Refusal { verdict: 6, position: at + i, bit: outside(i).trailing_zeros() });
-    }
-    let entries = words.as_chunks::<3>().0;
-    let illegal = |n: usize| {
-        let [first, ..] = entries[n];
-        (first >> 24) as u8 != TABLE || (first & TOTAL_ENTRY) >> 16 > if n == 0 { MOST } else { 0 }
-    };
-    if let Some(n) = (0..entries.len()).find(|&n| illegal(n)) {
-        return Some(Refusal::new(7, at + 3 * n));
-    }
-    (0..entries.len()).find_map(|n| {
-        let [first, second, third] = entries[n];
-        if second & 1 << 26 != 0 && !matches!(first >> 12 & 7, 1 | 3 | 5) {
-            return Some(Refusal::new(26, at + 3 * n));
-        }
-        (third & 0xFFFF < third >> 16).then(|| Refusal::new(27, at + 3 * n))
-    })
-}
-
 /// Checks a command of four words, and gives its size.
 #[inline(always)]
 fn check_group<const MODE: u32>(id: u8, header: u32, row: &Row, rest: &[u32], at: usize) -> Result<usize, Refusal> {
@@ -326,10 +242,7 @@ fn check<const MODE: u32>(list: &[u32], pass: &mut impl Pass) -> Result<Counts, 
         let size = if row.size == 4 {
             check_group::<MODE>(id, header, row, rest, at).map_err(|_| at)?
         } else if row.kind == Kind::Unknown || header & !row.masks[0] != 0 {
-            if id != TABLE {
-                return Err(at);
-            }
-            check_table::<MODE>(header, rest).ok_or(at)?
+            return Err(at);
         } else {
             1
         };
@@ -349,9 +262,6 @@ fn check<const MODE: u32>(list: &[u32], pass: &mut impl Pass) -> Result<Counts, 
 #[cold]
 pub fn refused<const MODE: u32>(words: &[u32], at: usize) -> Refusal {
     let (id, header, row) = split(got::<MODE>(words[0]));
-    if id == TABLE {
-        return table_refusal::<MODE>(words, at).unwrap_or(Refusal::new(10, at));
-    }
     if row.kind == Kind::Unknown {
         return Refusal::new(if matches!(id, 3 | 4) { 4 } else { 3 }, at);
     }
@@ -421,7 +331,7 @@ fn apply<const MODE: u32>(list: &[u32], image: &mut [u32; IMAGE], records: &mut 
             }
             continue;
         }
-        let size = whole_size(id, header, row);
+        let size = if row.size == 4 { group_size(id, header) } else { 1 };
         if let Some(record) = records.next() {
             record.copy_from_slice(&[id as u32, at as u32, size as u32, header]);
         }
@@ -558,7 +468,7 @@ fn form<const MODE: u32>(list: &[u32], image: &[u32; IMAGE], sink: &mut impl Sin
             settings.set(which, at);
             at += row.size as usize;
         } else {
-            let size = whole_size(id, header, row);
+            let size = if row.size == 4 { group_size(id, header) } else { 1 };
             settings.flush::<MODE>(list, sink);
             sink.put::<MODE>(&list[at..at + size]);
             at += size;

@@ -19,7 +19,7 @@ extern "C" {
 /*
  * Verdicts. Of a refusal first its position, which counts words from 0, then what it means and what to look at: `xp10 help` prints
  * the same of those that the tool gives. Of several faults the first command's is told; in one command the first of 3 to 7, then 15
- * to 19, 26 and 27, then 9 and 10; in a surface table each number in all entries before the next, but 26 and 27 entry by entry.
+ * to 19, then 9 and 10.
  */
 enum {
     /* the list's length */
@@ -32,13 +32,11 @@ enum {
     XP10_UNKNOWN_ID = 3,
     /* the command: id 03 or 04 - these go over PCI only, never in a list */
     XP10_PCI_ONLY = 4,
-    /* the command: fewer than four words left for a group, or a surface table cut short - the list was cut, or its last
-     * command; a table has three words for each entry, header bits 21..16 (Total_Entry) plus one of them */
+    /* the command: fewer than four words left for a group - the list was cut, or its last group */
     XP10_GROUP_CUT_SHORT = 5,
     /* that word: undefined bit set - the bit that the answer names, the lowest one: it must be zero */
     XP10_UNDEFINED_BIT = 6,
-    /* that word: illegal value - load code, zero words of a load or primitive, bank 3 of a window clip; of an entry of a
-     * surface table bits 21..16 (Total_Entry), at most 47 in the first entry and 0 in a later one, or the id, which is 34 */
+    /* that word: illegal value - load code, zero words of a load or primitive, bank 3 of a window clip */
     XP10_ILLEGAL_VALUE = 7,
     /* the command: payload cut short - the load's length, bits 8..0, counts groups of four words behind its own */
     XP10_PAYLOAD_CUT_SHORT = 9,
@@ -53,8 +51,8 @@ enum {
     /* that pair, counted from 0: PCI writes only: not the address that the command asks for - the address; often a value is
      * missing or the command before has a wrong length */
     XP10_WRONG_ADDRESS = 13,
-    /* the command's first pair: PCI writes only: the pairs end inside a command - the writes were cut, or a load's length or
-     * a surface table's Total_Entry is too large */
+    /* the command's first pair: PCI writes only: the pairs end inside a command - the writes were cut, or a load's length is
+     * too large */
     XP10_PAIRS_CUT_SHORT = 14,
     /* the command: window clip: page maximum over the bank's limit - third word, bits 31..28: at most 15, 11 and 6 for banks
      * 0, 1 and 2 (second word, bits 29..28) */
@@ -85,13 +83,7 @@ enum {
      * table a start plus its length is at most the buffer's words */
     XP10_BODY_MISPLACED = 24,
     /* 0: books only: no such scene - the number that was asked for */
-    XP10_NO_SUCH_SCENE = 25,
-    /* the entry's first word: surface table: tiling against the mode - second word of the entry, bit 26 (Enable_Tiled): it may
-     * be set only with mode 1, 3 or 5 in bits 14..12 of the first */
-    XP10_TILING_MODE = 26,
-    /* the entry's first word: surface table: end address below the base - third word of the entry: bits 15..0 (end) are at
-     * least bits 31..16 (base) */
-    XP10_END_BELOW_BASE = 27
+    XP10_NO_SUCH_SCENE = 25
 };
 
 /*
@@ -171,8 +163,8 @@ uint32_t xp10_measure(const uint32_t *list, size_t list_words,
 /*
  * Writes a list as PCI writes, for a board without list fetch: returns the verdict. Two words for each of the list, the
  * address and the value: a command's first word goes to 0x2800 + id * 4, a group's next three to the next three addresses
- * in steps of 4, and each payload group to the same four again; of a surface table each entry goes to the first three. It
- * refuses what the reader refuses; a refusal leaves `pairs` as it was.
+ * in steps of 4, and each payload group to the same four again. It refuses what the reader refuses; a refusal leaves
+ * `pairs` as it was.
  */
 uint32_t xp10_to_pci(const uint32_t *list, size_t list_words,
                      const uint32_t *image, size_t image_words,

@@ -68,17 +68,6 @@ fn inputs() -> Vec<(&'static str, Vec<u8>)> {
         ("refused-17", bytes(&[0x02000001, 0x88004000, 0, 0, 0])),
         ("refused-18", bytes(&[0x00000001, 0x00000001, 0x40800000, 0, 0, 0])),
         ("refused-19", bytes(&[0x40501C02, 0, 0, 0])),
-        (
-            "tables",
-            bytes(&[
-                0x34811456, 0x04000001, 0x02000300, 0x3480FBFF, 0, 1, 0x00000001, 0x34000000, 0, 0,
-            ]),
-        ),
-        ("refused-5-table", bytes(&[0x00000001, 0x34010000, 0, 0, 0x34000000, 0])),
-        ("refused-6-table", bytes(&[0x34010000, 0, 0, 0x34000000, 0x80000000, 0])),
-        ("refused-7-table", bytes(&[0x02000001, 0x34010000, 0, 0, 0x35000000, 0, 0])),
-        ("refused-26", bytes(&[0x00000001, 0x34010000, 0, 0, 0x34000000, 0x04000000, 0])),
-        ("refused-27", bytes(&[0x34010000, 0, 0, 0x34000000, 0, 0x00010000])),
         ("refused-12-one-byte", vec![0x06]),
         ("refused-12-two-bytes", with_more(bytes(&[0x06000000]), 2)),
         ("refused-12-three-bytes", with_more(bytes(&paper::LISTING_WORDS), 3)),

@@ -7,7 +7,6 @@ mod modes;
 mod pairs;
 mod random;
 mod sessions;
-mod surfaces;
 
 use self::commands::table;
 use crate::prng::{self, Prng};
@@ -16,9 +15,8 @@ use crate::rules::{self, IMAGE_WORDS, RECORD_WORDS};
 pub use fixed::{fixed_cases, fixed_sample, one_or_two_bits, OneOrTwoBits};
 pub use modes::{fixed_in_modes, random_in_mode, stored_in_modes};
 pub use pairs::{pairs as pairs_of, random_pairs};
-pub use random::{any_list, any_refused_list, equivalent_list, random_case, random_tables};
+pub use random::{any_list, any_refused_list, equivalent_list, random_case};
 pub use sessions::{fixed_sessions, random_session, stored_sessions};
-pub use surfaces::{accepted as accepted_tables, refused as refused_tables};
 
 #[derive(Clone)]
 pub struct Case {

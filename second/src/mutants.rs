@@ -10,7 +10,6 @@ mod orders;
 mod runs;
 mod scenes;
 mod stored;
-mod surfaces;
 mod thresholds;
 
 use crate::books as book_cases;

@@ -80,7 +80,7 @@ impl Function {
             CaseKind::Session => &[20],
             CaseKind::InMode => &[21],
         };
-        [own, &[15, 16, 17, 18, 19, 26, 27], of_kind].concat()
+        [own, &[15, 16, 17, 18, 19], of_kind].concat()
     }
 }
 

@@ -1,7 +1,7 @@
 //! Reading, normalising and listing by document 01, with PCI writes by Ticket 1 of document 02, the
 //! bit and the clashes told by Tickets 2 and 6, the page thresholds by Ticket 3, the form's length told
-//! by Ticket 4, several lists in one call by Ticket 5, lists of another byte order by Ticket 7, scene
-//! books by Ticket 8, and surface tables by Ticket 9; and what the tool says and writes, by its own paper.
+//! by Ticket 4, several lists in one call by Ticket 5, lists of another byte order by Ticket 7, and scene
+//! books by Ticket 8; and what the tool says and writes, by its own paper.
 //!
 //! What the documents fix stands in `document` as a value of `Rules`; here is what they say to do
 //! with it. Nothing may panic for a `Rules` with one part changed, so that `mutants` can run it.
@@ -104,16 +104,17 @@ impl Rules {
 
     /// The first of the checks that refuses, of a list or of a command at a position in it.
     fn pass(&self, checks: &[Check], row: &Row, at: usize, facts: &Facts) -> Result<(), Refusal> {
-        for (n, check) in checks.iter().enumerate() {
-            if let Some(word) = self.found(check, row, facts) {
-                let (check, word) = match self.entry_order.has(&check.when) {
-                    true => self.of_first_entry((check, word), &checks[n + 1..], row, facts),
-                    false => (check, word),
-                };
+        for check in checks {
+            let found = match &check.when {
+                When::Holds(test) => test.holds(facts).then_some(0),
+                When::UndefinedBit(which) => self.undefined_word(row, facts.words, *which),
+                When::Fault(kind) => row.fault(*kind, facts),
+                When::WrongAddress(which) => wrong_address(facts.addresses, *which),
+            };
+            if let Some(word) = found {
                 let position = match check.position {
                     Position::At(number) => number,
                     Position::FirstWord => at,
-                    Position::EntryFirst => at + row.entry_of(word) * row.own_words(),
                     Position::ThatWord => at + word,
                     Position::ListLength => facts.list_words,
                     Position::WholeWordsRead => facts.input_bytes / 4,
@@ -128,39 +129,11 @@ impl Rules {
         Ok(())
     }
 
-    /// The word of the command at which the check refuses it.
-    fn found(&self, check: &Check, row: &Row, facts: &Facts) -> Option<usize> {
-        match &check.when {
-            When::Holds(test) => test.holds(facts).then_some(0),
-            When::UndefinedBit(which) => self.undefined_word(row, facts.words, *which),
-            When::Fault(kind) => row.fault(*kind, facts),
-            When::WrongAddress(which) => wrong_address(facts.addresses, *which),
-        }
-    }
-
-    /// The check that refuses the lowest entry, of one that refuses and those behind it that are made in
-    /// one entry after the other.
-    fn of_first_entry<'a>(
-        &self,
-        first: (&'a Check, usize),
-        behind: &'a [Check],
-        row: &Row,
-        facts: &Facts,
-    ) -> (&'a Check, usize) {
-        let in_turn = behind.iter().filter(|check| self.entry_order.has(&check.when));
-        let found = in_turn.filter_map(|check| Some((check, self.found(check, row, facts)?)));
-        [first]
-            .into_iter()
-            .chain(found)
-            .min_by_key(|(_, word)| row.entry_of(*word))
-            .unwrap_or(first)
-    }
-
     /// The first word of the command with a bit outside its mask.
     fn undefined_word(&self, row: &Row, words: &[u32], which: WhichWord) -> Option<usize> {
         let outside = |&k: &usize| {
             let word = word_below_id(k, self.tested_header, words);
-            word & !row.mask(k).bits != 0
+            word & !row.masks[k].bits != 0
         };
         which.of(0..words.len(), outside)
     }
@@ -175,14 +148,13 @@ impl Rules {
         let id = self.id.of(&list[at..]);
         let row = self.row_of(id).unwrap_or(&OTHER_ID);
         let left = &list[at..];
-        let own_words = row.size(left);
-        let words = &left[..own_words.min(left.len())];
+        let words = &left[..row.own_words().min(left.len())];
         let length = row.length(words);
         let facts = Facts {
             words,
             list_words: list.len(),
             words_left: left.len(),
-            own_words,
+            own_words: row.own_words(),
             length,
             known: self.is_known(id),
             only_through_pci: self.pci.has(id),
@@ -337,11 +309,7 @@ impl Rules {
             RecordWord::Length => command.words.len() as u32,
             RecordWord::Header => self.records.header.of(command.words),
             RecordWord::FirstWord => command.words[0],
-            RecordWord::OwnWords => command.row.size(command.words) as u32,
-            RecordWord::EntryWords => match command.row.entries {
-                Some(_) => command.row.own_words() as u32,
-                None => command.words.len() as u32,
-            },
+            RecordWord::OwnWords => command.row.own_words() as u32,
             RecordWord::Number => number as u32,
         };
         self.records.words.iter().map(word).collect()
@@ -396,7 +364,7 @@ impl ToldBit {
     /// The bit told of a command whose word `k` is undefined.
     fn of_word(&self, k: usize, row: &Row, words: &[u32]) -> u32 {
         let bits = |k: usize| {
-            let (word, undefined) = (word_below_id(k, self.header, words), !row.mask(k).bits);
+            let (word, undefined) = (word_below_id(k, self.header, words), !row.masks[k].bits);
             match self.among {
                 Among::UndefinedAndSet => word & undefined,
                 Among::Set => word,

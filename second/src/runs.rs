@@ -88,7 +88,7 @@ mod tests {
     fn files_are_small() {
         let (stdin, stdout) = crate_files();
         assert!(
-            stdin.len() < 450_000 && stdout.len() < 450_000,
+            stdin.len() < 400_000 && stdout.len() < 400_000,
             "{}, {}",
             stdin.len(),
             stdout.len()
@@ -130,7 +130,7 @@ mod tests {
         let runs: Vec<RunCase> = stored_runs().into_iter().chain(more_runs()).collect();
         for task in Task::ALL {
             let of_pairs: &[u32] = if task == Task::List { &[13, 14] } else { &[5, 9] };
-            let every = [1, 2, 3, 4, 6, 7, 10, 12, 15, 16, 17, 18, 19, 26, 27];
+            let every = [1, 2, 3, 4, 6, 7, 10, 12, 15, 16, 17, 18, 19];
             for verdict in every.iter().chain(of_pairs) {
                 let front = format!("{}-refused-{verdict}-", task.name());
                 assert!(runs.iter().any(|case| case.name.starts_with(&front)), "{front}");

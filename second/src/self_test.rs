@@ -1,10 +1,9 @@
 //! Checks of the rules: the paper's cases, and on random lists demand 3, the bit told, the form's length
-//! told, sessions and lists in a mode; scene books; and surface tables.
+//! told, sessions and lists in a mode; and scene books.
 
 mod books;
 mod modes;
 mod scenes;
-mod surfaces;
 
 use crate::agreement;
 use crate::listings::bytes;
@@ -16,7 +15,7 @@ use crate::rules::{self, Answer, Refusal, Task, IMAGE_WORDS, NO_BIT, RECORD_WORD
 use crate::runs;
 
 /// Each panics when it fails.
-pub const CHECKS: [(&str, fn()); 25] = [
+pub const CHECKS: [(&str, fn()); 23] = [
     ("cases of document 01", paper_cases),
     ("the guide's writes", guide_writes),
     ("page thresholds", page_thresholds),
@@ -38,8 +37,6 @@ pub const CHECKS: [(&str, fn()); 25] = [
     ("scene books", books::by_hand),
     ("books there and back", books::there_and_back),
     ("one set of scenes, one book", books::one_book),
-    ("surface tables", surfaces::by_hand),
-    ("surface tables read again", surfaces::read_again),
     ("the tool's texts", tool_texts),
     ("the tool and the functions", tool_and_functions),
 ];
@@ -550,16 +547,6 @@ mod tests {
     #[test]
     fn one_book() {
         super::books::one_book();
-    }
-
-    #[test]
-    fn surfaces_by_hand() {
-        super::surfaces::by_hand();
-    }
-
-    #[test]
-    fn surfaces_read_again() {
-        super::surfaces::read_again();
     }
 
     #[test]

@@ -1,6 +1,6 @@
 //! How often functions gave each verdict.
 
-/// 8 is no longer given, and 12 is the listing program's alone. Those from 28 on are for later requests.
+/// 8 is no longer given, and 12 is the listing program's alone. Those from 26 on are for later requests.
 const VERDICTS: usize = 33;
 
 /// A column for each function.

@@ -18,7 +18,6 @@ const RANDOM_LISTS: usize = 1500;
 const RANDOM_PAIRS: usize = 700;
 const RANDOM_SESSIONS: usize = 300;
 const RANDOM_IN_MODE: usize = 250;
-const RANDOM_TABLES: usize = 150;
 
 /// The lists, then the sessions, then the lists in a mode.
 pub fn stored_cases() -> Vec<Case> {
@@ -28,7 +27,6 @@ pub fn stored_cases() -> Vec<Case> {
     let mut cases = lists::fixed_sample();
     cases.extend(random(6, RANDOM_LISTS, lists::random_case));
     cases.extend(random(7, RANDOM_PAIRS, lists::random_pairs));
-    cases.extend(random(10, RANDOM_TABLES, lists::random_tables));
     let [short, long] = lists::stored_sessions();
     cases.extend(short);
     cases.extend(random(8, RANDOM_SESSIONS, lists::random_session));
@@ -139,7 +137,7 @@ mod tests {
     /// Of a size to be kept in the repository.
     #[test]
     fn file_is_small() {
-        assert!(crate_files().0.len() <= 2_100_000);
+        assert!(crate_files().0.len() <= 1_700_000);
     }
 
     /// Only the plane range refuses it: seen where the length is read from fewer bits.

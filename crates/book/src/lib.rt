@@ -3,7 +3,6 @@
 // Each rule on contents goes over all entries before the next. None looks at a body.
 ghost use Rattle.std.specs.Prelude.{◌≡◌, true, false, cond, ◌+◌, ◌-◌, ◌*◌, ◌≤◌, ◌<◌, length, drop};
 ghost use Rattle.std.proofs.lemmas.List.Edits.{sets};
-ghost use Rattle.rules.specs.Lent.{given, left};
 ghost use Rattle.rules.specs.Book.{book_answer, book_outcome, entries, rising, fault_of, count, in_place, bodies_at, no_scene, look_up, finding_scene, stretch};
 ghost use Rattle.rules.specs.Book.{book_of, scenes_in, in_buffer, writing_book, Holds, entry_at};
 ghost use Rattle.book.specs.Tables.{FirstFrom, book_size, CanWrite, CanPut, with_scene};
@@ -14,7 +13,7 @@ use rules::{BookAnswer, Entry, SceneAnswer};
 
 fn entry_at(table: &[u32], k: usize) -> Entry
     requires { 3 * k + 3 ≤ length table.now }
-    ensures { result ≡ entry_at (given table) k }
+    ensures { result ≡ entry_at table.now k }
 {
     let at = 3 * k;
     Entry {
@@ -27,7 +26,7 @@ fn entry_at(table: &[u32], k: usize) -> Entry
 // Whether the numbers of n entries rise.
 fn rises(table: &[u32], n: usize) -> bool
     requires { Holds n table.now }
-    ensures { result ≡ rising (entries n (given table)) }
+    ensures { result ≡ rising (entries n table.now) }
 {
     let mut least: usize = 0;
     let mut k: usize = 0;
@@ -46,7 +45,7 @@ fn rises(table: &[u32], n: usize) -> bool
 
 // The first word, how many entries there are.
 fn count(book: &[u32]) -> u32
-    ensures { result ≡ count (given book) }
+    ensures { result ≡ count book.now }
 {
     if book.len() == 0 {
         return 0;
@@ -57,7 +56,7 @@ fn count(book: &[u32]) -> u32
 // The fault where the body of entry k is not in its place: 24 only if the numbers rise from there on.
 fn misplaced(table: &[u32], n: usize, k: usize) -> u32
     requires { Holds n table.now × (k < n) }
-    ensures { result ≡ cond (rising (entries (n - k) (drop (3 * k) (given table)))) 24 23 }
+    ensures { result ≡ cond (rising (entries (n - k) (drop (3 * k) table.now))) 24 23 }
 {
     let at = 3 * k;
     if rises(&table[at..], n - k) { 24 } else { 23 }
@@ -67,7 +66,7 @@ fn misplaced(table: &[u32], n: usize, k: usize) -> u32
 // many turns of a loop would take longer, by up to a half.
 fn contents_fault(table: &[u32], n: usize, end: usize) -> u32
     requires { Holds n table.now }
-    ensures { result ≡ fault_of false (rising (entries n (given table))) (in_place (bodies_at n) end (entries n (given table))) }
+    ensures { result ≡ fault_of false (rising (entries n table.now)) (in_place (bodies_at n) end (entries n table.now)) }
 {
     let mut at = 1 + 3 * n;
     let mut least: usize = 0;
@@ -102,7 +101,7 @@ fn no_scene(verdict: u32) -> SceneAnswer
 // By halves, of n entries whose numbers rise, the first whose number is not below.
 fn first_from(table: &[u32], n: usize, number: u32) -> usize
     requires { Holds n table.now × (rising (entries n table.now) ≡ true) }
-    ensures { FirstFrom (given table) n number result }
+    ensures { FirstFrom table.now n number result }
 {
     let mut low: usize = 0;
     let mut high = n;
@@ -120,7 +119,7 @@ fn first_from(table: &[u32], n: usize, number: u32) -> usize
 // The scene of a number among n entries whose numbers rise.
 fn look_up(table: &[u32], n: usize, number: u32) -> SceneAnswer
     requires { Holds n table.now × (rising (entries n table.now) ≡ true) }
-    ensures { result ≡ look_up number (entries n (given table)) }
+    ensures { result ≡ look_up number (entries n table.now) }
 {
     let k = first_from(table, n, number);
     if k == n {
@@ -139,7 +138,7 @@ fn look_up(table: &[u32], n: usize, number: u32) -> SceneAnswer
 
 // Where a scene's words are in the book.
 pub fn find(book: &[u32], number: u32) -> SceneAnswer
-    ensures { result ≡ finding_scene (given book) number }
+    ensures { result ≡ finding_scene book.now number }
 {
     let n = words::wide(count(book));
     if (256 < n) | (book.len() < 1 + 3 * n) {
@@ -155,8 +154,8 @@ pub fn find(book: &[u32], number: u32) -> SceneAnswer
 
 // The scene's own stretch of the book, an empty one on refusal, and the verdict beside it.
 pub fn scene<'a>(book: &'a [u32], number: u32, verdict: &mut u32) -> &'a [u32]
-    ensures result_value { result.now ≡ stretch (given book) (finding_scene (given book) number) }
-    ensures verdict_value { left verdict ≡ (finding_scene (given book) number).verdict }
+    ensures result_value { result.now ≡ stretch book.now (finding_scene book.now number) }
+    ensures verdict_value { verdict.new ≡ (finding_scene book.now number).verdict }
 {
     let a = find(book, number);
     *verdict = a.verdict;
@@ -170,7 +169,7 @@ pub fn scene<'a>(book: &'a [u32], number: u32, verdict: &mut u32) -> &'a [u32]
 // The words of the book of n entries; 0 where a body is too long or not inside a buffer of some words.
 fn book_size(table: &[u32], n: usize, words: usize) -> usize
     requires { Holds n table.now }
-    ensures { result ≡ cond (in_buffer words (entries n (given table))) (book_size n (given table)) 0 }
+    ensures { result ≡ cond (in_buffer words (entries n table.now)) (book_size n table.now) 0 }
 {
     let mut size = 1 + 3 * n;
     let mut k: usize = 0;
@@ -188,7 +187,7 @@ fn book_size(table: &[u32], n: usize, words: usize) -> usize
 
 fn copy(from: &[u32], out: &mut [u32], at: usize)
     requires { at + length from.now ≤ length out.old }
-    ensures { left out ≡ sets (given out) at (given from) }
+    ensures { out.new ≡ sets out.old at from.now }
 {
     let mut i: usize = 0;
     while i < from.len() {
@@ -200,8 +199,8 @@ fn copy(from: &[u32], out: &mut [u32], at: usize)
 // Entry k of the book, and its body at a word. The answer is where the next one goes.
 fn write_scene(table: &[u32], k: usize, words: &[u32], book: &mut [u32], at: usize) -> usize
     requires { CanPut table.now k words.now book.old at }
-    ensures value { result ≡ at + (entry_at (given table) k).length }
-    ensures book_value { left book ≡ with_scene (given words) (3 * k + 1) at (entry_at (given table) k) (given book) }
+    ensures value { result ≡ at + (entry_at table.now k).length }
+    ensures book_value { book.new ≡ with_scene words.now (3 * k + 1) at (entry_at table.now k) book.old }
 {
     let e = entry_at(table, k);
     let entry = 3 * k + 1;
@@ -217,7 +216,7 @@ fn write_scene(table: &[u32], k: usize, words: &[u32], book: &mut [u32], at: usi
 // The book of n entries' scenes, where it fits.
 fn write_scenes(table: &[u32], n: usize, words: &[u32], book: &mut [u32])
     requires { CanWrite n table.now words.now book.old }
-    ensures { left book ≡ sets (given book) 0 (book_of (scenes_in (given words) (entries n (given table)))) }
+    ensures { book.new ≡ sets book.old 0 (book_of (scenes_in words.now (entries n table.now))) }
 {
     book[0] = n as u32;
     let mut at = 1 + 3 * n;
@@ -236,7 +235,7 @@ fn no_book(verdict: u32) -> BookAnswer
 
 // The book of a table's scenes, over a buffer where its starts count.
 pub fn write_book(table: &[u32], words: &[u32], book: &mut [u32]) -> BookAnswer
-    ensures { book_outcome result (left book) ≡ writing_book (given table) (given words) (given book) }
+    ensures { book_outcome result book.new ≡ writing_book table.now words.now book.old }
 {
     let n = table.len() / 3;
     if (table.len() % 3 != 0) | (256 < n) {

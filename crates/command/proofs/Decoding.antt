@@ -1,5 +1,5 @@
 -- The command at a position of a list, by the tests that the code makes.
-use Prim.Native.Nat.{ℕ, suc, ◌+◌, ◌*◌, ◌^◌, ◌≤◌, ◌<◌, ◌-◌}
+use Prim.Native.Nat.{ℕ, suc, ◌+◌, ◌^◌, ◌≤◌, ◌<◌, ◌-◌}
 use native.Mathlib.Nat.{add-zero}
 use native.Mathlib.Numerals.{add-one, add-two, add-three}
 use native.Mathlib.Omega.{arith}
@@ -7,14 +7,14 @@ use mathlib.Core.Path.{◌≡◌, refl, ap, ap₂, sym, ◌∙◌}
 use mathlib.Core.Bool.{Bool, true, false, cond}
 use mathlib.Core.List.{List, ◌∷◌}
 use mathlib.Core.Option.{none}
-use lib.Dec.{eqb, ltb}
-use borrow.Author.Tests.{le-ltb, lt-ltb, ltb-true, ltb-false, eqb-false}
+use lib.Dec.{ltb}
+use borrow.Author.Tests.{le-ltb, lt-ltb, ltb-true, ltb-false}
 use lib.ListN.{length, get_or, take, drop, length-drop}
 use lib.Seq.{drop-cons, length-take-le}
 use Rattle.rules.specs.declared.Refusal.{Refusal}
 use Rattle.rules.specs.Word.{id_of, header_of, undefined}
-use Rattle.rules.specs.Table.{table, row_of, is_setting, is_begin, is_base}
-use Rattle.rules.specs.Command.{total_entry, payload, own_size, rest_size}
+use Rattle.rules.specs.Table.{row_of, is_setting, is_begin, is_base}
+use Rattle.rules.specs.Command.{payload, rest_size}
 use Rattle.rules.specs.Values.{refusal, undefined_bit, shift, first_fault, faults}
 use Rattle.rules.specs.Decode.{Decoded, bad, good, unknown, decode_row, decode}
 use Rattle.theory.proofs.Numbers.{faults_proper}
@@ -22,13 +22,12 @@ use Rattle.table.specs.declared.Group.{Group}
 use Rattle.command.specs.declared.Decoded.{Decoded as Decoded'}
 use Rattle.command.specs.declared.Decoded.TheVariants.{Command, Refused}
 use Rattle.table.specs.Ids.{group_id}
-use Rattle.table.specs.Tables.{more, group, group_at, surface_row, row_number, row_table, row_at, mask_at}
-use Rattle.values.specs.First.{no_refusal, first_refusal, found, value_fault}
-use Rattle.faults.specs.Faults.{own, any_undefined, first_undefined}
-use Rattle.surfaces.specs.View.{IsTable, table_fault}
-use Rattle.command.specs.View.{size_at, refused_at, single_of, group_of, surfaces_of, if_legal, whole_group, view, decoded_at, KnownAt, SurfacesAt}
-use Rattle.table.proofs.Tables.{Known, known, no_row, row_at_lem, ordinary, own-more}
-use Rattle.command.proofs.Sizes.{surface_own, surface_at, size-known, size-group, size-single}
+use Rattle.table.specs.Tables.{more, group, group_at, row_count, row_number, row_table, row_at, mask_at}
+use Rattle.values.specs.First.{no_refusal, first_refusal, found}
+use Rattle.faults.specs.Faults.{own, any_undefined, first_undefined, value_fault}
+use Rattle.command.specs.View.{size_at, refused_at, single_of, group_of, if_legal, whole_group, view, decoded_at, KnownAt}
+use Rattle.table.proofs.Tables.{Known, known, unknown-row, row_at_lem}
+use Rattle.command.proofs.Sizes.{size-known, size-group, size-single}
 use Rattle.faults.proofs.FirstFault.{fault-is, undefined-found, undefined-first, defined_next, single-fault, first-fault}
 
 -- a group's words after the first
@@ -46,30 +45,36 @@ module _ (l : List ℕ) (at id : ℕ) (ei : id ≡ id_of (get_or l at 0)) (small
   ws = drop (suc at) l
 
   -- 3 and 4
-  pub decoded_unknown : row_of id ≡ none → decoded_at l at ≡ refused_at (unknown id) at
+  pub decoded_unknown : row_count ≤ row_number id → decoded_at l at ≡ refused_at (unknown id) at
   unfolding decoded_at decode
   decoded_unknown n =
-      let e : row_of (id_of (get_or l at 0)) ≡ none = ap row_of (sym ei) ∙ n in
+      let e : row_of (id_of (get_or l at 0)) ≡ none = ap row_of (sym ei) ∙ unknown-row id small n in
       rw (e, add-zero at) (ap (λ (i : ℕ). refused_at (unknown i) at) (sym ei))
 
-  module _ (k : Known id) (inside : at < length l) where
-    -- how many of the words behind the first are its own
-    abbrev n : ℕ
-    n = own_size (row_at id) h
-
+  module _ (k : Known id) where
     row_decoded : decoded_at l at ≡ view at (decode_row (row_at id) h ws)
     unfolding decoded_at decode
     row_decoded = rw (← ei, k.found)
 
-    -- 5
-    pub decoded_cut : length l - at < suc n → decoded_at l at ≡ refused_at 5 at
-    unfolding decode_row
-    decoded_cut cut = row_decoded ∙ rw (lt-ltb (length ws) n (omega (arith, length-drop (suc at) l)), add-zero at)
+    own-length : (b : Bool) → length (row_at id).more ≡ cond b 3 0 → suc (length (row_at id).more) ≡ cond b 4 1
+    own-length true e = omega arith
+    own-length false e = omega arith
 
-    module _ (fits : at + suc n ≤ length l) where
+    -- 5
+    pub decoded_cut : at < length l → length l - at < cond (group_id id) 4 1 → decoded_at l at ≡ refused_at 5 at
+    unfolding decode_row
+    decoded_cut inside cut =
+        let n = own-length (group_id id) k.length_more in
+        row_decoded ∙ rw (lt-ltb (length ws) (length (row_at id).more) (omega (arith, length-drop (suc at) l)), add-zero at)
+
+    module _ (fits : at + cond (group_id id) 4 1 ≤ length l) where
       -- the first fault of the command
       unfoldable pub first_at : Refusal
-      first_at = first_refusal (faults (row_at id) (header_of (get_or l at 0)) (take (own_size (row_at id) (header_of (get_or l at 0))) (drop (suc at) l)))
+      first_at = first_refusal (faults (row_at id) (header_of (get_or l at 0)) (own (row_at id) (group_at l at)))
+
+      own_at : (b : Bool) → length (row_at id).more ≡ cond b 3 0 → at + cond b 4 1 ≤ length l → take (length (row_at id).more) ws ≡ own (row_at id) (group_at l at)
+      own_at true e f = rw e (group-words l at f)
+      own_at false e f = rw e
 
       abbrev whole : Decoded
       whole =
@@ -78,12 +83,15 @@ module _ (l : List ℕ) (at id : ℕ) (ei : id ≡ id_of (get_or l at 0)) (small
       by_fault : decoded_at l at ≡ view at (cond (found first_at) (bad first_at) whole)
       unfolding decode_row first_at
       by_fault =
+          let n = own-length (group_id id) k.length_more in
+          let fs = faults (row_at id) h (own (row_at id) (group_at l at)) in
           row_decoded
-          ∙ ap (λ (t : Bool). view at (cond t (bad (refusal 5 0)) (first_fault bad (faults (row_at id) h (take n ws)) whole)))
-          (le-ltb (length ws) n (omega (arith, length-drop (suc at) l)))
-          ∙ ap (view at) (first-fault _ (faults (row_at id) h (take n ws)) whole (faults_proper (row_at id) h (take n ws)))
+          ∙ ap (λ (t : Bool). view at (cond t (bad (refusal 5 0)) (first_fault bad (faults (row_at id) h (take (length (row_at id).more) ws)) whole)))
+          (le-ltb (length ws) (length (row_at id).more) (omega (arith, length-drop (suc at) l)))
+          ∙ ap (λ (o : List ℕ). view at (first_fault bad (faults (row_at id) h o) whole)) (own_at (group_id id) k.length_more fits)
+          ∙ ap (view at) (first-fault _ fs whole (faults_proper (row_at id) h (own (row_at id) (group_at l at))))
 
-      -- 6, 7, 15 to 19, 26 and 27
+      -- 6, 7 and 15 to 19
       pub decoded_fault : found first_at ≡ true → decoded_at l at ≡ Refused (shift at first_at)
       decoded_fault e = by_fault ∙ rw e
 
@@ -95,17 +103,19 @@ module _ (l : List ℕ) (at id : ℕ) (ei : id ≡ id_of (get_or l at 0)) (small
         pub decoded_short : length l - at < size_at l at → decoded_at l at ≡ refused_at 9 at
         decoded_short cut =
             let e : size_at l at ≡ suc (rest_size (row_at id) h ws) = size-known l at id ei small k in
+            let o = own-length (group_id id) k.length_more in
             no_fault_lem ∙ rw (lt-ltb (length ws) (rest_size (row_at id) h ws) (omega (arith, length-drop (suc at) l)), add-zero at)
 
         pub decoded_command : size_at l at ≤ length l - at
             → decoded_at l at ≡ Command (record { words = size_at l at; setting = is_setting (row_at id).kind; begin = is_begin (row_at id).kind; base = is_base id })
         decoded_command enough =
-            let m : ℕ = rest_size (row_at id) h ws in
-            let e : size_at l at ≡ suc m = size-known l at id ei small k in
-            let f : m ≤ length ws = omega (arith, length-drop (suc at) l) in
-            no_fault_lem ∙ rw (le-ltb (length ws) m f)
-            (ap₂ (λ (x i : ℕ). Command (record { words = x; setting = is_setting (row_at id).kind; begin = is_begin (row_at id).kind; base = is_base i }))
-            (ap suc (length-take-le m ws f) ∙ sym e) k.own-id)
+            let n : ℕ = rest_size (row_at id) h ws in
+            let e : size_at l at ≡ suc n = size-known l at id ei small k in
+            let o = own-length (group_id id) k.length_more in
+            let f : n ≤ length ws = omega (arith, length-drop (suc at) l) in
+            no_fault_lem ∙ rw (le-ltb (length ws) n f)
+            (ap₂ (λ (m i : ℕ). Command (record { words = m; setting = is_setting (row_at id).kind; begin = is_begin (row_at id).kind; base = is_base i }))
+            (ap suc (length-take-le n ws f) ∙ sym e) k.own-id)
 
 -- ---- by the table of rows lent
 
@@ -116,90 +126,61 @@ module _ (rows l : List ℕ) (at : ℕ) (lent : rows ≡ row_table) (inside : at
   small : id < 256
   small = omega (arith, ei, fit)
 
-  pub at_unknown : surface_row ≤ get_or rows id 0 → (id ≡ 0x34 → ⊥) → {n : ℕ} → n ≡ unknown id → {d : Decoded'} → d ≡ refused_at n at → d ≡ decoded_at l at
-  at_unknown n other em ed =
-      ed ∙ ap (λ (k : ℕ). refused_at k at) em ∙ sym (decoded_unknown l at id ei small (no_row id small (omega (arith, row_at_lem id small rows lent)) other))
+  pub at_unknown : row_count ≤ get_or rows id 0 → {n : ℕ} → n ≡ unknown id → {d : Decoded'} → d ≡ refused_at n at → d ≡ decoded_at l at
+  at_unknown n em ed = ed ∙ ap (λ (k : ℕ). refused_at k at) em ∙ sym (decoded_unknown l at id ei small (omega (arith, row_at_lem id small rows lent)))
 
-  pub at_surfaces : id ≡ 0x34 → SurfacesAt l at
-  at_surfaces e = record { inside = inside; id-is = sym ei ∙ e }
-
-  pub at_known : get_or rows id 0 < surface_row → KnownAt l at id (get_or rows id 0)
+  pub at_known : get_or rows id 0 < row_count → KnownAt l at id (get_or rows id 0)
   at_known n = record { inside = inside; id-is = ei; row_is = row_at_lem id small rows lent; known = n }
 
 -- ---- a command of one word
 
-module _ (l : List ℕ) (at id row : ℕ) (a : KnownAt l at id row) (small : id < 256) where
-  ordinary_here : eqb id 0x34 ≡ false
-  ordinary_here = ordinary id (omega (arith, a.row_is, a.known))
-
-  pub other_here : id ≡ 0x34 → ⊥
-  other_here = eqb-false id 0x34 ordinary_here
-
-  known_here : Known id
-  known_here = known id small (omega (arith, a.row_is, a.known))
-
-  -- the words behind the first that are its own
-  own_here : own_size (row_at id) (header_of (get_or l at 0)) ≡ cond (group_id id) 3 0
-  own_here = ap length (own-more id (header_of (get_or l at 0)) known_here ordinary_here) ∙ known_here.length_more ordinary_here
-
 module _ (l : List ℕ) (at id row : ℕ) (a : KnownAt l at id row) (small : id < 256) (single : group_id id ≡ false) where
   k₁ : Known id
-  k₁ = known_here l at id row a small
+  k₁ = known id small (omega (arith, a.row_is, a.known))
 
-  none_more : own_size (row_at id) (header_of (get_or l at 0)) ≡ 0
-  none_more = own_here l at id row a small ∙ ap (λ (b : Bool). cond b 3 0) single
-
-  fits_one : at + suc (own_size (row_at id) (header_of (get_or l at 0))) ≤ length l
-  fits_one = omega (arith, a.inside, none_more)
+  fits_one : at + cond (group_id id) 4 1 ≤ length l
+  fits_one = rw single (omega (arith, a.inside))
 
   module _ (header m : ℕ) (b : Bool) (eh : header ≡ header_of (get_or l at 0)) (em : m ≡ mask_at row 0) (eb : b ≡ undefined header m) where
-    by_bit : first_at l at id a.id-is small k₁ a.inside fits_one ≡ cond b (undefined_bit 0 header m) no_refusal
+    by_bit : first_at l at id a.id-is small k₁ fits_one ≡ cond b (undefined_bit 0 header m) no_refusal
     unfolding first_at
-    by_bit = rw (none_more, eb, eh, em, a.row_is) (single-fault id (header_of (get_or l at 0)) k₁ single (ordinary_here l at id row a small))
+    by_bit = rw (k₁.length_more, single, eb, eh, em, a.row_is) (single-fault id (header_of (get_or l at 0)) k₁ single)
 
     -- 6
     pub decoded_single_bad : b ≡ true → (f : Refusal) → f ≡ first_undefined row (group header 0 0 0) no_refusal → decoded_at l at ≡ Refused (shift at f)
     decoded_single_bad t f ef =
-        let is : first_at l at id a.id-is small k₁ a.inside fits_one ≡ undefined_bit 0 header m = by_bit ∙ ap (λ (x : Bool). cond x (undefined_bit 0 header m) no_refusal) t in
+        let is : first_at l at id a.id-is small k₁ fits_one ≡ undefined_bit 0 header m = by_bit ∙ ap (λ (x : Bool). cond x (undefined_bit 0 header m) no_refusal) t in
         let u : undefined header (mask_at row 0) ≡ true = rw em at (sym eb ∙ t) in
-        decoded_fault l at id a.id-is small k₁ a.inside fits_one (ap found is) ∙ rw (is, ef, u, em)
+        decoded_fault l at id a.id-is small k₁ fits_one (ap found is) ∙ rw (is, ef, u, em)
 
     pub decoded_single : b ≡ false → decoded_at l at ≡ single_of row
     decoded_single t =
-        let o = ordinary_here l at id row a small in
-        let one = size-single l at id a.id-is small single o in
+        let one = size-single l at id a.id-is small single in
         let begin : is_begin (row_at id).kind ≡ false = rw single at k₁.apart in
-        decoded_command l at id a.id-is small k₁ a.inside fits_one (ap found (by_bit ∙ ap (λ (x : Bool). cond x (undefined_bit 0 header m) no_refusal) t)) (omega (arith, a.inside))
-        ∙ rw (one, begin, k₁.base, k₁.setting-row o, single, a.row_is)
+        decoded_command l at id a.id-is small k₁ fits_one (ap found (by_bit ∙ ap (λ (x : Bool). cond x (undefined_bit 0 header m) no_refusal) t)) (omega (arith, a.inside))
+        ∙ rw (one, begin, k₁.base, k₁.setting-row, single, a.row_is)
 
 -- ---- a command of four
 
 module _ (l : List ℕ) (at id row : ℕ) (a : KnownAt l at id row) (small : id < 256) (grouped : group_id id ≡ true) where
   k₄ : Known id
-  k₄ = known_here l at id row a small
-
-  three_more : own_size (row_at id) (header_of (get_or l at 0)) ≡ 3
-  three_more = own_here l at id row a small ∙ ap (λ (b : Bool). cond b 3 0) grouped
+  k₄ = known id small (omega (arith, a.row_is, a.known))
 
   -- 5
   pub group_cut : length l < at + 4 → decoded_at l at ≡ refused_at 5 at
-  group_cut c = decoded_cut l at id a.id-is small k₄ a.inside (omega (arith, a.inside, three_more))
+  group_cut c = decoded_cut l at id a.id-is small k₄ a.inside (rw grouped (omega (arith, a.inside)))
 
   module _ (four : at + 4 ≤ length l) (g : Group) (eg : g ≡ group_at l at) {b : Bool} (eb : b ≡ any_undefined row g) where
-    fits_four : at + suc (own_size (row_at id) (header_of (get_or l at 0))) ≤ length l
-    fits_four = omega (arith, four, three_more)
+    fits_four : at + cond (group_id id) 4 1 ≤ length l
+    fits_four = rw grouped four
 
     abbrev first_here : Refusal
-    first_here = first_at l at id a.id-is small k₄ a.inside fits_four
+    first_here = first_at l at id a.id-is small k₄ fits_four
 
     first-is : first_here ≡ first_undefined row g (value_fault id g)
     unfolding first_at
     first-is =
-        let o = ordinary_here l at id row a small in
-        ap (λ (n : ℕ). first_refusal (faults (row_at id) (header_of (get_or l at 0)) (take n (drop (suc at) l)))) three_more
-        ∙ ap (λ (ws : List ℕ). first_refusal (faults (row_at id) (header_of (get_or l at 0)) ws))
-        (group-words l at four ∙ sym (rw (k₄.length_more o, grouped)))
-        ∙ ap (λ (x : Group). first_refusal (faults (row_at id) x.header (own (row_at id) x))) (sym eg)
+        ap (λ (x : Group). first_refusal (faults (row_at id) x.header (own (row_at id) x))) (sym eg)
         ∙ sym (ap (λ (n : ℕ). first_undefined n g (value_fault id g)) a.row_is ∙ fault-is id g k₄ grouped)
 
     -- 6
@@ -207,7 +188,7 @@ module _ (l : List ℕ) (at id row : ℕ) (a : KnownAt l at id row) (small : id 
     group-undefined t f ef =
         let u = sym eb ∙ t in
         let is : first_here ≡ first_undefined row g no_refusal = first-is ∙ undefined-first row g u (value_fault id g) in
-        decoded_fault l at id a.id-is small k₄ a.inside fits_four (ap found is ∙ undefined-found row g u) ∙ ap (λ (x : Refusal). Refused (shift at x)) (is ∙ sym ef)
+        decoded_fault l at id a.id-is small k₄ fits_four (ap found is ∙ undefined-found row g u) ∙ ap (λ (x : Refusal). Refused (shift at x)) (is ∙ sym ef)
 
     -- 7 and 15 to 19, then 9
     module _ (t : b ≡ false) (n : ℕ) (en : n ≡ payload id g.header (more g)) where
@@ -224,61 +205,18 @@ module _ (l : List ℕ) (at id row : ℕ) (a : KnownAt l at id row) (small : id 
           let clear = ap found value_is ∙ e in
           let base : is_base id ≡ false = rw grouped at k₄.apart in
           (elim (ltb (length l) (at + (4 + n))) as (λ t. ltb (length l) (at + (4 + n)) ≡ t → decoded_at l at ≡ cond t (refused_at 9 at) (group_of (4 + n) row)) [
-            | true ↦ λ c. decoded_short l at id a.id-is small k₄ a.inside fits_four clear (omega (arith, ltb-true (length l) (at + (4 + n)) c, size_is, a.inside))
-            | false ↦ λ c. decoded_command l at id a.id-is small k₄ a.inside fits_four clear (omega (arith, ltb-false (length l) (at + (4 + n)) c, size_is))
-                ∙ rw (size_is, base, k₄.begins, k₄.setting-row (ordinary_here l at id row a small), grouped, a.row_is)
+            | true ↦ λ c. decoded_short l at id a.id-is small k₄ fits_four clear (omega (arith, ltb-true (length l) (at + (4 + n)) c, size_is, a.inside))
+            | false ↦ λ c. decoded_command l at id a.id-is small k₄ fits_four clear (omega (arith, ltb-false (length l) (at + (4 + n)) c, size_is))
+                ∙ rw (size_is, base, k₄.begins, k₄.setting-row, grouped, a.row_is)
           ]) refl
 
       pub group_valued : decoded_at l at ≡ if_legal at id g (whole_group l at (4 + n) row)
       group_valued =
           (elim (found (value_fault id g)) as (λ t. found (value_fault id g) ≡ t → decoded_at l at ≡ cond t (Refused (shift at (value_fault id g))) (whole_group l at (4 + n) row)) [
-            | true ↦ λ e. decoded_fault l at id a.id-is small k₄ a.inside fits_four (ap found value_is ∙ e) ∙ ap (λ (x : Refusal). Refused (shift at x)) value_is
+            | true ↦ λ e. decoded_fault l at id a.id-is small k₄ fits_four (ap found value_is ∙ e) ∙ ap (λ (x : Refusal). Refused (shift at x)) value_is
             | false ↦ λ e. whole_is e
           ]) refl
 
       -- one without payload
       pub group_fixed : n ≡ 0 → decoded_at l at ≡ if_legal at id g (group_of 4 row)
       group_fixed z = group_valued ∙ rw (z, le-ltb (length l) (at + 4) four)
-
--- ---- a surface table
-
-module _ (l : List ℕ) (at : ℕ) (a : SurfacesAt l at) (n : ℕ) (en : n ≡ 3 * (total_entry (get_or l at 0) + 1)) where
-  table-known : Known 0x34
-  unfolding row_number
-  table-known = known 0x34 (omega arith) (omega arith)
-
-  -- its words are the header's too
-  own_is : suc (own_size (row_at 0x34) (header_of (get_or l at 0))) ≡ n
-  own_is = omega (arith, surface_own (header_of (get_or l at 0)), en)
-
-  size_here : size_at l at ≡ n
-  size_here = surface_at l at a.id-is ∙ sym en
-
-  -- 5
-  pub surfaces_cut : length l - at < n → decoded_at l at ≡ refused_at 5 at
-  surfaces_cut cut = decoded_cut l at 0x34 (sym a.id-is) (omega arith) table-known a.inside (omega (arith, own_is))
-
-  module _ (fits : at + n ≤ length l) where
-    -- the part of the list that it is
-    part-words : (ws : List ℕ) → ws ≡ take n (drop at l) → ws ≡ get_or l at 0 ∷ take (own_size (row_at 0x34) (header_of (get_or l at 0))) (drop (suc at) l)
-    part-words ws e =
-        e ∙ ap (λ (k : ℕ). take k (drop at l)) (sym own_is) ∙ ap (take (suc (own_size (row_at 0x34) (header_of (get_or l at 0))))) (drop-cons l at 0 a.inside)
-
-    pub table-length : (ws : List ℕ) → ws ≡ take n (drop at l) → length ws ≡ n
-    table-length ws e = ap length e ∙ length-take-le n (drop at l) (omega (arith, length-drop at l))
-
-    pub part-table : (ws : List ℕ) → ws ≡ take n (drop at l) → IsTable ws
-    part-table ws e = table-length ws e ∙ en ∙ ap (λ (x : List ℕ). 3 * (total_entry (get_or x 0 0) + 1)) (sym (part-words ws e))
-
-    -- 6, 7, 26 and 27
-    pub surfaces_decoded : (ws : List ℕ) → ws ≡ take n (drop at l) → decoded_at l at ≡ surfaces_of at ws
-    unfolding table_fault first_at row_at table is_base
-    surfaces_decoded ws ep =
-        let f : Refusal = table_fault ws in
-        let whole : at + suc (own_size (row_at 0x34) (header_of (get_or l at 0))) ≤ length l = omega (arith, fits, own_is) in
-        let is : f ≡ first_at l at 0x34 (sym a.id-is) (omega arith) table-known a.inside whole = ap table_fault (part-words ws ep) in
-        (elim (found f) as (λ t. found f ≡ t → decoded_at l at ≡ cond t (Refused (shift at f)) (Command (record { words = length ws; setting = false; begin = false; base = false }))) [
-          | true ↦ λ e. decoded_fault l at 0x34 (sym a.id-is) (omega arith) table-known a.inside whole (ap found (sym is) ∙ e) ∙ ap (λ (x : Refusal). Refused (shift at x)) (sym is)
-          | false ↦ λ e. decoded_command l at 0x34 (sym a.id-is) (omega arith) table-known a.inside whole (ap found (sym is) ∙ e) (omega (arith, size_here, fits))
-              ∙ rw (size_here, table-length ws ep)
-        ]) refl

@@ -8,14 +8,14 @@ use mathlib.Core.List.{List, [], ◌∷◌}
 use lib.ListN.{length, set, take, drop, length-drop}
 use lib.Seq.{sets, length-take-le}
 use Rattle.rules.specs.Table.{Kind, setting, plain, keeps, begins, row_of, is_setting, is_begin}
-use Rattle.rules.specs.Command.{payload, rest_size}
+use Rattle.rules.specs.Command.{payload}
 use Rattle.rules.specs.Image.{leave, apply}
-use Rattle.theory.proofs.Rows.{Setting, setting-fits, setting-more, setting-payload}
+use Rattle.theory.proofs.Rows.{Setting, setting-fits, setting-payload}
 use Rattle.theory.proofs.Form.{is-setting}
 use Rattle.table.specs.Ids.{of_row, begin_id, setting_id, keeps_header, kept_id, group_id, setting_kind}
 use Rattle.table.specs.Tables.{more, row_at, group_at}
 use Rattle.command.specs.View.{size_at}
-use Rattle.table.proofs.Tables.{Known, known, group_ordinary, setting_ordinary}
+use Rattle.table.proofs.Tables.{Known, known}
 use Rattle.command.proofs.Sizes.{size-known, size-group, size-single}
 use Rattle.command.proofs.Decoding.{group-words}
 use Rattle.command.specs.Effects.{id_at, header_at, command_at, CommandAt, record_at}
@@ -88,7 +88,7 @@ module _ (l : List ℕ) (at : ℕ) (h : CommandAt l at) where
       → apply (command_at l at) image ≡ sets image (id_at l at) (header_at l at ∷ us)
   unfolding command_at
   setting-is s image us n e =
-      rw (setting-more (row_at id) s (header_at l at), setting-payload (row_at id) s (header_at l at) (take (length (row_at id).more) (drop (suc at) l)), s.kind, k.own-id)
+      rw (setting-payload (row_at id) s (header_at l at) (take (length (row_at id).more) (drop (suc at) l)), s.kind, k.own-id)
       (ap (λ (x : List ℕ). sets image id (header_at l at ∷ x)) (ap (λ (m : ℕ). take m (drop (suc at) l)) (add-zero _ ∙ n) ∙ e))
 
   pub record IsGroup : Type 0 where
@@ -107,7 +107,7 @@ module _ (l : List ℕ) (at : ℕ) (h : CommandAt l at) where
   is-group e =
       let p = kind_two (setting_id id) (group_id id) e in
       let s = setting-row p.0 in
-      let n : length (row_at id).more ≡ 3 = k.length_more (group_ordinary id p.1) ∙ ap (λ (b : Bool). cond b 3 0) p.1 in
+      let n : length (row_at id).more ≡ 3 = k.length_more ∙ ap (λ (b : Bool). cond b 3 0) p.1 in
       let inside' = group-inside p.1 in
       let size' : size_at l at ≡ 4 + payload id (header_at l at) (more (group_at l at)) = size-group l at id refl h.small p.1 in
       let no_payload : payload (row_at id).id (header_at l at) (more (group_at l at)) ≡ 0 = setting-payload (row_at id) s (header_at l at) (more (group_at l at)) in
@@ -127,9 +127,8 @@ module _ (l : List ℕ) (at : ℕ) (h : CommandAt l at) where
   is-single e =
       let p = kind-one (setting_id id) (group_id id) e in
       let s = setting-row p.0 in
-      let o = setting_ordinary id p.0 in
-      let n : length (row_at id).more ≡ 0 = k.length_more o ∙ ap (λ (b : Bool). cond b 3 0) p.1 in
-      record { size = size-single l at id refl h.small p.1 o; image-is = λ image. setting-is s image [] n refl }
+      let n : length (row_at id).more ≡ 0 = k.length_more ∙ ap (λ (b : Bool). cond b 3 0) p.1 in
+      record { size = size-single l at id refl h.small p.1; image-is = λ image. setting-is s image [] n refl }
 
   -- ---- work
 
@@ -149,7 +148,8 @@ module _ (l : List ℕ) (at : ℕ) (h : CommandAt l at) where
   is-work e =
       let w = kind_of_row ∙ kind_none (setting_id id) (group_id id) e in
       let s = size-known l at id refl h.small k in
-      let n = length-take-le (rest_size (row_at id) (header_at l at) (drop (suc at) l)) (drop (suc at) l) (omega (arith, h.inside, length-drop (suc at) l)) in
+      let n = length-take-le (length (row_at id).more + payload (row_at id).id (header_at l at) (take (length (row_at id).more) (drop (suc at) l))) (drop (suc at) l)
+      (omega (arith, h.inside, length-drop (suc at) l)) in
       record {
         record_is = rw w (ap₂ {C = List ℕ} (λ i m. i ∷ at ∷ m ∷ header_at l at ∷ []) k.own-id (ap suc n ∙ sym s));
         image-is = λ image. rw (k.own-id, k.found) (by_kind (row_at id).kind (header_at l at) _ image w);

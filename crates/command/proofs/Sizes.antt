@@ -6,15 +6,15 @@ use mathlib.Core.Bool.{Bool, true, false, cond}
 use mathlib.Core.List.{List, []}
 use mathlib.Core.Option.{Option, none, some}
 use lib.Dec.{eqb}
-use borrow.Author.Tests.{eqb-true, ne_eqb}
+use borrow.Author.Tests.{ne_eqb}
 use lib.ListN.{length, get_or, take, drop, length-take, get_or-eq_default}
 use lib.Seq.{get_or-take, get_or-drop}
 use Rattle.rules.specs.Word.{id_of, header_of}
-use Rattle.rules.specs.Table.{Row, table, row_of}
-use Rattle.rules.specs.Command.{total_entry, entry_masks, more_masks, payload, own_size, rest_size, size_of, command_size}
+use Rattle.rules.specs.Table.{Row, row_of}
+use Rattle.rules.specs.Command.{payload, rest_size, size_of, command_size}
 use Rattle.table.specs.Ids.{of_row, is_group, group_id}
 use Rattle.table.specs.Tables.{more, row_at, group_at}
-use Rattle.table.proofs.Tables.{Known, ruled, known-row, group_ordinary, own-more}
+use Rattle.table.proofs.Tables.{Known, ruled, known-row}
 use Rattle.command.specs.View.{size_at}
 
 -- ---- the payload
@@ -43,22 +43,6 @@ no_load id r e =
     let y : ◌≡◌ {A = ℕ} 0 1 = cc in
     omega arith
 
--- ---- a surface table
-
-entries-length : (n : ℕ) → length (entry_masks (row_at 0x34) n) ≡ 3 * n
-unfolding row_at table
-entries-length zero = refl
-entries-length (suc n) = omega (arith, entries-length n)
-
--- its own words behind the first
-pub surface_own : (h : ℕ) → own_size (row_at 0x34) h ≡ 2 + 3 * total_entry h
-unfolding row_at table more_masks
-surface_own h = omega (arith, entries-length (total_entry h))
-
-pub surface_size : (h : ℕ) (ws : List ℕ) → size_of h ws (row_of 0x34) ≡ 3 * (total_entry h + 1)
-unfolding row_of row_at table payload
-surface_size h ws = omega (arith, surface_own h)
-
 -- ---- a group, and any other
 
 module _ (id : ℕ) (small : id < 256) (h : ℕ) (ws : List ℕ) where
@@ -73,29 +57,25 @@ module _ (id : ℕ) (small : id < 256) (h : ℕ) (ws : List ℕ) where
   unfolding group_id
   group-size g =
       let k = by_group (row_of id) refl g in
-      let o = group_ordinary id g in
-      let n : length (row_at id).more ≡ 3 = k.length_more o ∙ ap (λ (b : Bool). cond b 3 0) g in
-      known-size k ∙ rw (own-more id h k o, n, k.own-id) (omega arith)
+      let n : length (row_at id).more ≡ 3 = k.length_more ∙ ap (λ (b : Bool). cond b 3 0) g in
+      known-size k ∙ rw (n, k.own-id) (omega arith)
 
-  by_single : (x : Option Row) → row_of id ≡ x → group_id id ≡ false → eqb id 0x34 ≡ false → size_of h ws (row_of id) ≡ 1
-  by_single none e g o = ap (size_of h ws) e
-  by_single (some r) e g o =
+  by_single : (o : Option Row) → row_of id ≡ o → group_id id ≡ false → size_of h ws (row_of id) ≡ 1
+  by_single none e g = ap (size_of h ws) e
+  by_single (some r) e g =
       let k = known-row id small r e in
-      let n : length (row_at id).more ≡ 0 = k.length_more o ∙ ap (λ (b : Bool). cond b 3 0) g in
-      known-size k ∙ rw (own-more id h k o, n, k.own-id, no_payload id h [] (no_load id (k.one_word g)))
+      let n : length (row_at id).more ≡ 0 = k.length_more ∙ ap (λ (b : Bool). cond b 3 0) g in
+      known-size k ∙ rw (n, k.own-id, no_payload id h [] (no_load id (k.one_word g)))
 
-  pub single-size : group_id id ≡ false → eqb id 0x34 ≡ false → size_of h ws (row_of id) ≡ 1
-  single-size g o = by_single (row_of id) refl g o
+  pub single-size : group_id id ≡ false → size_of h ws (row_of id) ≡ 1
+  single-size g = by_single (row_of id) refl g
 
 -- only the three words behind the first say how many there are
 size-own : (id : ℕ) → id < 256 → (h : ℕ) (us ws : List ℕ) → ((k : ℕ) → get_or (take 3 us) k 0 ≡ get_or (take 3 ws) k 0) → size_of h us (row_of id) ≡ size_of h ws (row_of id)
 size-own id small h us ws e =
     (elim (group_id id) as (λ t. group_id id ≡ t → size_of h us (row_of id) ≡ size_of h ws (row_of id)) [
       | true ↦ λ g. group-size id small h us g ∙ ap (λ (n : ℕ). 4 + n) (payload-own id h (take 3 us) (take 3 ws) e) ∙ sym (group-size id small h ws g)
-      | false ↦ λ g. (elim (eqb id 0x34) as (λ t. eqb id 0x34 ≡ t → size_of h us (row_of id) ≡ size_of h ws (row_of id)) [
-        | true ↦ λ o. rw (eqb-true id 0x34 o) (surface_size h us ∙ sym (surface_size h ws))
-        | false ↦ λ o. single-size id small h us g o ∙ sym (single-size id small h ws g o)
-      ]) refl
+      | false ↦ λ g. single-size id small h us g ∙ sym (single-size id small h ws g)
     ]) refl
 
 -- ---- at a position of a list
@@ -118,17 +98,8 @@ module _ (l : List ℕ) (at id : ℕ) (ei : id ≡ id_of (get_or l at 0)) (small
   pub size-group : group_id id ≡ true → size_at l at ≡ 4 + payload id (header_of (get_or l at 0)) (more (group_at l at))
   size-group g = size_at_lem ∙ group-size id small (header_of (get_or l at 0)) (more (group_at l at)) g
 
-  pub size-single : group_id id ≡ false → eqb id 0x34 ≡ false → size_at l at ≡ 1
-  size-single g o = size_at_lem ∙ single-size id small (header_of (get_or l at 0)) (more (group_at l at)) g o
-
--- told by the word fetched
-pub words_of : {n w v : ℕ} → n ≡ 3 * (total_entry w + 1) → w ≡ v → n ≡ 3 * (total_entry v + 1)
-words_of en ew = en ∙ ap (λ (x : ℕ). 3 * (total_entry x + 1)) ew
-
--- Total_Entry is the header's
-pub surface_at : (l : List ℕ) (at : ℕ) → id_of (get_or l at 0) ≡ 0x34 → size_at l at ≡ 3 * (total_entry (get_or l at 0) + 1)
-unfolding command_size
-surface_at l at e = rw e (surface_size (header_of (get_or l at 0)) (drop (suc at) l) ∙ omega arith)
+  pub size-single : group_id id ≡ false → size_at l at ≡ 1
+  size-single g = size_at_lem ∙ single-size id small (header_of (get_or l at 0)) (more (group_at l at)) g
 
 -- a command has a word
 some_size : (h : ℕ) (ws : List ℕ) (x : Option Row) → 0 < size_of h ws x

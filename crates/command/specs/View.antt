@@ -10,9 +10,9 @@ use Rattle.command.specs.declared.Command.{Command as Kept}
 use Rattle.command.specs.declared.Decoded.{Decoded as Decoded'}
 use Rattle.command.specs.declared.Decoded.TheVariants.{Command, Refused}
 use Rattle.table.specs.declared.Group.{Group}
-use Rattle.table.specs.Tables.{begin_row, base_row, setting_row, surface_row, row_number}
-use Rattle.values.specs.First.{found, value_fault}
-use Rattle.surfaces.specs.View.{table_fault}
+use Rattle.table.specs.Tables.{begin_row, base_row, setting_row, row_count, row_number}
+use Rattle.values.specs.First.{found}
+use Rattle.faults.specs.Faults.{value_fault}
 
 -- the words of the command at a position, payload included
 abbrev pub size_at : List ℕ → ℕ → ℕ
@@ -37,11 +37,6 @@ single_of row = Command (record { words = 1; setting = setting_row false row; be
 abbrev pub group_of : ℕ → ℕ → Decoded'
 group_of n row = Command (record { words = n; setting = setting_row true row; begin = eqb row begin_row; base = false })
 
--- a whole surface table by its words, or its fault
-abbrev pub surfaces_of : ℕ → List ℕ → Decoded'
-surfaces_of at ws =
-    cond (found (table_fault ws)) (Refused (shift at (table_fault ws))) (Command (record { words = length ws; setting = false; begin = false; base = false }))
-
 -- a command whose values break no rule, else its refusal
 abbrev pub if_legal : ℕ → ℕ → Group → Decoded' → Decoded'
 if_legal at id g d = cond (found (value_fault id g)) (Refused (shift at (value_fault id g))) d
@@ -54,14 +49,9 @@ whole_group l at n row = cond (ltb (length l) (at + n)) (refused_at 9 at) (group
 unfoldable pub decoded_at : List ℕ → ℕ → Decoded'
 decoded_at l at = view at (decode (get_or l at 0) (drop (suc at) l))
 
--- a surface table begins at a position
-pub record SurfacesAt (l : List ℕ) (at : ℕ) : Type 0 where
-  pub inside : at < length l
-  pub id-is : id_of (get_or l at 0) ≡ 0x34
-
--- a known command of one word or of four stands at a position, with its id and its row
+-- a known command stands at a position, with its id and its row
 pub record KnownAt (l : List ℕ) (at id row : ℕ) : Type 0 where
   pub inside : at < length l
   pub id-is : id ≡ id_of (get_or l at 0)
   pub row_is : row ≡ row_number id
-  pub known : row < surface_row
+  pub known : row < row_count

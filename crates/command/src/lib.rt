@@ -1,16 +1,14 @@
 // One command of a list: its size, and its decoding.
 ghost use Rattle.std.specs.Prelude.{◌≡◌, true, false, ◌+◌, ◌^◌, ◌<◌, ◌≤◌, length};
-ghost use Rattle.rules.specs.Lent.{given};
 ghost use Rattle.rules.specs.Table.{row_of};
 ghost use Rattle.rules.specs.Command.{payload, size_of};
 ghost use Rattle.rules.specs.Values.{shift};
 ghost use Rattle.rules.specs.Decode.{unknown};
 ghost use Rattle.table.specs.Ids.{group_id};
 ghost use Rattle.table.specs.Tables.{mask_table, more, group_at};
-ghost use Rattle.values.specs.First.{value_fault};
-ghost use Rattle.surfaces.specs.View.{IsTable};
+ghost use Rattle.faults.specs.Faults.{value_fault};
 ghost use Rattle.command.specs.declared.Decoded.TheVariants as decoded;
-ghost use Rattle.command.specs.View.{size_at, decoded_at, refused_at, single_of, group_of, surfaces_of, if_legal, whole_group, KnownAt, SurfacesAt};
+ghost use Rattle.command.specs.View.{size_at, decoded_at, refused_at, single_of, group_of, if_legal, whole_group, KnownAt};
 
 use masks::Masks;
 use rules::{NO_BIT, Refusal};
@@ -37,7 +35,7 @@ pub enum Decoded {
 // The own words of a group.
 pub fn group_at(list: &[u32], at: usize) -> Group
     requires { at + 4 ≤ length list.now }
-    ensures { result ≡ group_at (given list) at }
+    ensures { result ≡ group_at list.now at }
 {
     Group {
         header: words::header_of(words::fetch(list, at)),
@@ -62,19 +60,16 @@ pub fn payload(id: u8, g: Group) -> usize
 pub fn size(id: u8, g: Group) -> usize
     ensures { result ≡ size_of g.header (more g) (row_of id) }
 {
-    if !table::is_long(id) {
-        return 1;
+    if table::is_group(id) {
+        return 4 + payload(id, g);
     }
-    if id == 0x34 {
-        return surfaces::table_words(g.header);
-    }
-    4 + payload(id, g)
+    1
 }
 
 // The words of the command at a position, of one that is cut too.
 pub fn size_at(list: &[u32], at: usize) -> usize
     requires { at < length list.now }
-    ensures { result ≡ size_at (given list) at }
+    ensures { result ≡ size_at list.now at }
 {
     let w = words::fetch(list, at);
     let g = Group {
@@ -179,7 +174,7 @@ pub fn other_command(at: usize, id: u8, row: u8, g: Group) -> Decoded
 // The same of a load, with its payload: refusal 9 too.
 fn load_command(list: &[u32], at: usize, row: u8, g: Group) -> Decoded
     requires { at + 4 ≤ length list.now }
-    ensures { result ≡ if_legal at 0x40 g (whole_group (given list) at (4 + payload 0x40 g.header (more g)) row) }
+    ensures { result ≡ if_legal at 0x40 g (whole_group list.now at (4 + payload 0x40 g.header (more g)) row) }
 {
     if faults::any(values::load_faults(g)) {
         return refused_values(at, 0x40, g);
@@ -191,39 +186,10 @@ fn load_command(list: &[u32], at: usize, row: u8, g: Group) -> Decoded
     group_command(words, row)
 }
 
-// A surface table that begins at a position, by its words: refusals 6, 7, 26 and 27.
-pub fn table_command(at: usize, entries: &[u32]) -> Decoded
-    requires { IsTable entries.now × (at < 2 ^ 63) }
-    ensures { result ≡ surfaces_of at (given entries) }
-{
-    if surfaces::has_fault(entries) {
-        return refused_fault(at, surfaces::first_fault(entries));
-    }
-    Decoded::Command(Command {
-        words: entries.len(),
-        setting: false,
-        begin: false,
-        base: false,
-    })
-}
-
-// The same in a list: refusal 5 too.
-pub fn decode_table(list: &[u32], at: usize) -> Decoded
-    requires { SurfacesAt list.now at }
-    ensures { result ≡ decoded_at (given list) at }
-{
-    let words = surfaces::table_words(words::fetch(list, at));
-    if list.len() - at < words {
-        return refused(5, at);
-    }
-    let end = at + words;
-    table_command(at, &list[at..end])
-}
-
 // A command of one word: refusal 6.
 pub fn decode_single(masks: &Masks, list: &[u32], at: usize, id: u8, row: u8) -> Decoded
     requires { KnownAt list.now at id row × (group_id id ≡ false) × (masks.now ≡ mask_table) }
-    ensures { result ≡ decoded_at (given list) at }
+    ensures { result ≡ decoded_at list.now at }
 {
     let header = words::header_of(words::fetch(list, at));
     if masks::undefined(header, masks::mask(masks, row, 0)) {
@@ -236,7 +202,7 @@ pub fn decode_single(masks: &Masks, list: &[u32], at: usize, id: u8, row: u8) ->
 // inlines (docs/DECISIONS.md): measure a change.
 pub fn decode_group(masks: &Masks, list: &[u32], at: usize, id: u8, row: u8) -> Decoded
     requires { KnownAt list.now at id row × (group_id id ≡ true) × (masks.now ≡ mask_table) }
-    ensures { result ≡ decoded_at (given list) at }
+    ensures { result ≡ decoded_at list.now at }
 {
     if list.len() < at + 4 {
         return refused(5, at);

@@ -13,7 +13,6 @@ use Rattle.rules.specs.declared.Refusal.{Refusal}
 use Rattle.rules.specs.Values.{refusal}
 use Rattle.rules.specs.Answer.{refused_answer}
 use Rattle.endian.specs.Words.{words_of}
-use Rattle.theory.proofs.Image.{front}
 use Rattle.endian.proofs.Words.{words-length, words_front}
 use Rattle.desk.specs.declared.Task.{Task}
 use Rattle.desk.specs.declared.Task.TheVariants.{Show, Image, Normalise, Pci, List as Pairs}
@@ -21,6 +20,7 @@ use Rattle.desk.specs.declared.Fault.{Fault}
 use Rattle.desk.specs.declared.Fault.TheVariants.{Found, Nothing}
 use Rattle.desk.specs.Desk.{make, perform, most, size_refusal, made}
 use Rattle.desk.specs.Faults.{fault_of}
+use Rattle.desk.proofs.Written.{front}
 
 fault-found : (o : Option Refusal) (f : Refusal) → fault_of o ≡ Found f → o ≡ some f
 fault-found (some g) f e = cc

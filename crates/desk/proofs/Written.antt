@@ -1,12 +1,12 @@
 -- What is written fits its buffer.
 use Prim.Native.Nat.{ℕ, ◌≤◌}
 use native.Mathlib.Omega.{arith}
-use mathlib.Core.Path.{◌≡◌, refl}
+use mathlib.Core.Path.{◌≡◌, refl, ap, ◌∙◌}
 use mathlib.Core.Bool.{Bool, true, false}
 use mathlib.Core.List.{List, ◌++◌}
 use lib.Dec.{ltb}
-use lib.ListN.{length, drop, replicate, length-append, length-replicate}
-use lib.Seq.{length-take-le}
+use lib.ListN.{length, take, drop, replicate, length-append, length-replicate}
+use lib.Seq.{sets, sets-eq, take_at, length-take-le}
 use borrow.Author.Tests.{ltb-false}
 use Rattle.rules.specs.Command.{Command, words_all}
 use Rattle.rules.specs.Walk.{Parsed, refused, accepted, parse}
@@ -41,3 +41,7 @@ fits_pairs ws image o e = rw e (fits_parsed pairs_all ws image (replicate 8192 0
 pub fits-list : (ps image : List ℕ) (o : Outcome) → o ≡ from_pci ps image (replicate 4096 0) → Fits o
 unfolding from_pci
 fits-list ps image o e = rw e (fits_parsed (λ cs. values ps) (values ps) image (replicate 4096 0) (omega (arith, length-replicate {A = ℕ} 4096 0)) (parse_pairs image ps))
+
+-- what is put in front stands there
+pub front : (vs before : List ℕ) (n : ℕ) → length vs ≡ n → n ≤ length before → take n (sets before 0 vs) ≡ vs
+front vs before n e h = ap (take n) (sets-eq vs before 0 (omega (arith, e))) ∙ take_at vs _ n e

@@ -1,6 +1,5 @@
 // What the tool makes of the bytes of two files, in lent buffers: a text, and the bytes to write.
 ghost use Rattle.std.specs.Prelude.{◌≡◌, List, [], ℕ, ◌≤◌, length};
-ghost use Rattle.rules.specs.Lent.{given, left};
 ghost use Rattle.desk.specs.declared.Task.TheVariants as task;
 ghost use Rattle.desk.specs.Desk.{make, perform, most, size_refusal, made};
 ghost use Rattle.desk.specs.Faults.{fault_of};
@@ -53,7 +52,7 @@ fn finish(
     out: &mut [u8; 32768],
 ) -> Sizes
     requires { length words.now ≤ 8192 }
-    ensures { Makes (make a (given list) (given pairs) bytes (given words)) (given text) (given out) (left text) (left out) result }
+    ensures { Makes (make a list.now pairs.now bytes words.now) text.old out.old text.new out.new result }
 {
     let verdict = verdict::put_verdict(text, a, list, pairs, bytes);
     endian::store(words, out);
@@ -79,7 +78,7 @@ fn finish(
 
 // At most 310,000 bytes of text, and none to write.
 fn show(list: &[u32], image: &[u32; 256], text: &mut [u8]) -> Sizes
-    ensures { (out : List ℕ) → Makes (perform task.Show (given list) (given image)) (given text) out (left text) out result }
+    ensures { (out : List ℕ) → Makes (perform task.Show list.now image.now) text.old out text.new out result }
 {
     let size = show::put_show(text, list, image);
     Sizes {
@@ -97,13 +96,13 @@ fn finish_image(
     text: &mut [u8],
     out: &mut [u8; 32768],
 ) -> Sizes
-    ensures { Makes (make a (given list) [] 1024 (given after)) (given text) (given out) (left text) (left out) result }
+    ensures { Makes (make a list.now [] 1024 after.now) text.old out.old text.new out.new result }
 {
     finish(a, list, &[], 1024, after, text, out)
 }
 
 fn image_after(list: &[u32], image: &[u32; 256], text: &mut [u8], out: &mut [u8; 32768]) -> Sizes
-    ensures { Makes (perform task.Image (given list) (given image)) (given text) (given out) (left text) (left out) result }
+    ensures { Makes (perform task.Image list.now image.now) text.old out.old text.new out.new result }
 {
     let mut after = *image;
     let mut records = [0u32; 16384];
@@ -115,7 +114,7 @@ fn image_after(list: &[u32], image: &[u32; 256], text: &mut [u8], out: &mut [u8;
 }
 
 fn normalise(list: &[u32], image: &[u32; 256], text: &mut [u8], out: &mut [u8; 32768]) -> Sizes
-    ensures { Makes (perform task.Normalise (given list) (given image)) (given text) (given out) (left text) (left out) result }
+    ensures { Makes (perform task.Normalise list.now image.now) text.old out.old text.new out.new result }
 {
     let mut form = [0u32; 4096];
     let a = form::normalise(list, image, &mut form);
@@ -124,7 +123,7 @@ fn normalise(list: &[u32], image: &[u32; 256], text: &mut [u8], out: &mut [u8; 3
 }
 
 fn to_pci(list: &[u32], image: &[u32; 256], text: &mut [u8], out: &mut [u8; 32768]) -> Sizes
-    ensures { Makes (perform task.Pci (given list) (given image)) (given text) (given out) (left text) (left out) result }
+    ensures { Makes (perform task.Pci list.now image.now) text.old out.old text.new out.new result }
 {
     let mut pairs = [0u32; 8192];
     let a = pci_writer::to_pci(list, image, &mut pairs);
@@ -134,7 +133,7 @@ fn to_pci(list: &[u32], image: &[u32; 256], text: &mut [u8], out: &mut [u8; 3276
 
 fn from_pci(pairs: &[u32], image: &[u32; 256], text: &mut [u8], out: &mut [u8; 32768]) -> Sizes
     requires { length pairs.now ≤ 8193 }
-    ensures { Makes (perform task.List (given pairs) (given image)) (given text) (given out) (left text) (left out) result }
+    ensures { Makes (perform task.List pairs.now image.now) text.old out.old text.new out.new result }
 {
     let mut list = [0u32; 4096];
     let a = pci_reader::from_pci(pairs, image, &mut list);
@@ -155,7 +154,7 @@ fn perform(
     out: &mut [u8; 32768],
 ) -> Sizes
     requires { length words.now ≤ 8193 }
-    ensures { Makes (perform task (given words) (given image)) (given text) (given out) (left text) (left out) result }
+    ensures { Makes (perform task words.now image.now) text.old out.old text.new out.new result }
 {
     match task {
         Task::Show => show(words, image, text),
@@ -215,7 +214,7 @@ fn size_fault(limit: usize, input: usize, image: usize) -> Fault
 
 // What a task makes of the bytes of a list, or of pairs, and of an image: at most 310,000 bytes of text.
 pub fn run(task: Task, input: &[u8], image: &[u8], text: &mut [u8], out: &mut [u8; 32768]) -> Sizes
-    ensures { Makes (made task (given input) (given image)) (given text) (given out) (left text) (left out) result }
+    ensures { Makes (made task input.now image.now) text.old out.old text.new out.new result }
 {
     let fault = size_fault(most(task), input.len(), image.len());
     if let Fault::Found(f) = fault {

@@ -4,7 +4,6 @@
 // crates/settings has them.
 ghost use Rattle.std.specs.Prelude.{◌≡◌, ◌+◌, ◌-◌, ◌<◌, ◌≤◌, min, length, set};
 ghost use Rattle.std.proofs.lemmas.List.Edits.{sets};
-ghost use Rattle.rules.specs.Lent.{given, left};
 ghost use Rattle.rules.specs.Form.{read};
 ghost use Rattle.settings.specs.Numbers.{number_of};
 ghost use Rattle.settings.specs.Output.{longest};
@@ -37,7 +36,7 @@ fn room_for(words: usize, n: usize, len: usize) -> usize
 // Some words of a list.
 fn copy(list: &[u32], at: usize, words: usize, out: &mut [u32], n: usize)
     requires { (length list.now ≤ longest) × (at + words ≤ length list.now) × (n ≤ longest) }
-    ensures { left out ≡ sets (given out) n (read (given list) at words) }
+    ensures { out.new ≡ sets out.old n (read list.now at words) }
 {
     let m = room_for(words, n, out.len());
     let mut i: usize = 0;
@@ -57,7 +56,7 @@ fn emit_work(
     out: &mut [u32],
 ) -> Draft
     requires { CanWork list.now image.now (made d latest.now sent.old out.old) }
-    ensures { made result (given latest) (left sent) (left out) ≡ after_work (given list) (given image) (made d (given latest) (given sent) (given out)) }
+    ensures { made result latest.now sent.new out.new ≡ after_work list.now image.now (made d latest.now sent.old out.old) }
 {
     let at = d.at;
     let words = command::size_at(list, at);
@@ -74,7 +73,7 @@ fn emit_work(
 fn take_setting(d: Draft, id: u8, words: usize, latest: &mut [u16; 64]) -> Draft
     requires { (d.at ≤ longest) × (words ≤ longest) × (number_of id < 64) }
     ensures value { result ≡ behind_setting d id words }
-    ensures latest_value { left latest ≡ set (given latest) (number_of id) d.at }
+    ensures latest_value { latest.new ≡ set latest.old (number_of id) d.at }
 {
     let i = (id / 4 + id % 2) as u32;
     latest[i as usize] = d.at as u16;
@@ -95,7 +94,7 @@ pub fn take_command(
     out: &mut [u32],
 ) -> Draft
     requires { CanTake list.now image.now (made d latest.old sent.old out.old) }
-    ensures { made result (left latest) (left sent) (left out) ≡ after_command (given list) (given image) (made d (given latest) (given sent) (given out)) }
+    ensures { made result latest.new sent.new out.new ≡ after_command list.now image.now (made d latest.old sent.old out.old) }
 {
     let id = words::id_of(words::fetch(list, d.at));
     let kind = Settings::kind(id);

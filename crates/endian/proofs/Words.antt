@@ -4,10 +4,10 @@ use native.Mathlib.Omega.{arith}
 use mathlib.Core.Path.{◌≡◌, ap, ap₂, ◌∙◌}
 use mathlib.Core.List.{List, [], ◌∷◌}
 use lib.ListN.{length, get_or, take, set}
-use lib.Seq.{sets, length-take-le}
+use lib.Seq.{sets, sets-eq, take_at, length-take-le}
 use Rattle.rules.specs.Word.{little_endian}
 use Rattle.endian.specs.Words.{words_of}
-use Rattle.theory.proofs.Image.{sets_append, front}
+use Rattle.theory.proofs.Image.{sets_append}
 use Rattle.endian.proofs.Chunks.{chunks-more, chunks-all}
 
 pub words-length : (bs : List ℕ) → length (words_of bs) ≡ length bs / 4
@@ -42,4 +42,6 @@ module _ (bs before : List ℕ) where
 
   -- they stand in front
   pub words_front : length bs / 4 ≤ length before → take (length bs / 4) (sets before 0 (words_of bs)) ≡ words_of bs
-  words_front h = front (words_of bs) before (length bs / 4) (words-length bs) h
+  words_front h =
+      let k = words-length bs in
+      ap (take (length bs / 4)) (sets-eq (words_of bs) before 0 (omega (arith, k))) ∙ take_at (words_of bs) _ (length bs / 4) k

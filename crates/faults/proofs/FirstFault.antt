@@ -10,18 +10,19 @@ use lib.ListN.{length, take}
 use Rattle.rules.specs.declared.Refusal.{Refusal}
 use Rattle.rules.specs.Word.{undefined}
 use Rattle.rules.specs.Table.{Row}
-use Rattle.rules.specs.Command.{more_masks}
-use Rattle.rules.specs.Values.{refusal, Fault, first_fault, undefined_faults, group_faults, value_faults, faults}
+use Rattle.rules.specs.Values.{refusal, Fault, first_fault, undefined_faults, value_faults, faults}
 use Rattle.rules.specs.Decode.{Decoded, bad}
 use Rattle.theory.proofs.Numbers.{Proper, not-zero, values_proper}
 use Rattle.theory.proofs.Refusals.{OfFaults}
 use Rattle.table.specs.declared.Group.{Group}
 use Rattle.table.specs.Ids.{group_id}
 use Rattle.table.specs.Tables.{more, row_number, row_at, mask_of, mask_at}
-use Rattle.table.proofs.Tables.{Known, ruled, group_ordinary}
+use Rattle.table.proofs.Tables.{Known, ruled}
 use Rattle.values.specs.declared.Faults.{Faults}
-use Rattle.values.specs.First.{first_refusal, found, no_refusal, value_fault, first_of}
-use Rattle.faults.specs.Faults.{unless_defined, first_undefined, own, any_undefined}
+use Rattle.values.specs.First.{first_refusal, found, no_refusal, first_of}
+use Rattle.values.specs.Broken.{load_broken, primitive_broken}
+use Rattle.values.proofs.Broken.{load-first, primitive_first}
+use Rattle.faults.specs.Faults.{unless_defined, first_undefined, own, any_undefined, value_fault}
 
 no_case : {A : Type 0} (a b c d : Bool) (w x y z e : A) → ((a || b) || (c || d)) ≡ false → cond a w (cond b x (cond c y (cond d z e))) ≡ e
 no_case true _ _ _ w x y z e f = let u : ◌≡◌ {A = Bool} true false = f in cc
@@ -30,35 +31,33 @@ no_case false false true _ w x y z e f = let u : ◌≡◌ {A = Bool} true false
 no_case false false false true w x y z e f = let u : ◌≡◌ {A = Bool} true false = f in cc
 no_case false false false false w x y z e f = refl
 
-unruled_values : (id h : ℕ) (ws : List ℕ) → ruled id ≡ false → group_faults id h ws ≡ []
-unfolding group_faults
+unruled_values : (id h : ℕ) (ws : List ℕ) → ruled id ≡ false → value_faults id h ws ≡ []
+unfolding value_faults
 unruled_values id h ws e = no_case (eqb id 0x40) (eqb id 0x48) (eqb id 0x84) (eqb id 0x88) _ _ _ _ [] e
 
 -- the faults of a group
 module _ (r : Row) (h a b c : ℕ) (m₀ m₁ m₂ m₃ : ℕ) where
-  by_masks : (more : List ℕ) → r.more ≡ more → (m₀ ∷ m₁ ∷ m₂ ∷ m₃ ∷ []) ≡ (mask_of r 0 ∷ mask_of r 1 ∷ mask_of r 2 ∷ mask_of r 3 ∷ []) → length more ≡ 3 → eqb r.id 0x34 ≡ false
-      → unless_defined 0 h m₀ (unless_defined 1 a m₁ (unless_defined 2 b m₂ (unless_defined 3 c m₃ (first_refusal (group_faults r.id h (a ∷ b ∷ c ∷ []))))))
+  by_masks : (more : List ℕ) → r.more ≡ more → (m₀ ∷ m₁ ∷ m₂ ∷ m₃ ∷ []) ≡ (mask_of r 0 ∷ mask_of r 1 ∷ mask_of r 2 ∷ mask_of r 3 ∷ []) → length more ≡ 3
+      → unless_defined 0 h m₀ (unless_defined 1 a m₁ (unless_defined 2 b m₂ (unless_defined 3 c m₃ (first_refusal (value_faults r.id h (a ∷ b ∷ c ∷ []))))))
       ≡ first_refusal (faults r h (take (length r.more) (a ∷ b ∷ c ∷ [])))
-  unfolding faults value_faults more_masks
-  by_masks [] em e l o = absurd (omega arith)
-  by_masks (x ∷ []) em e l o = absurd (omega arith)
-  by_masks (x ∷ y ∷ []) em e l o = absurd (omega arith)
-  by_masks (x ∷ y ∷ z ∷ []) em e l o =
+  unfolding faults
+  by_masks [] em e l = absurd (omega arith)
+  by_masks (x ∷ []) em e l = absurd (omega arith)
+  by_masks (x ∷ y ∷ []) em e l = absurd (omega arith)
+  by_masks (x ∷ y ∷ z ∷ []) em e l =
       let e₀ : m₀ ≡ r.mask = cc in
       let e₁ : m₁ ≡ x = cc in
       let e₂ : m₂ ≡ y = cc in
       let e₃ : m₃ ≡ z = cc in
-      rw (o, em, e₀, e₁, e₂, e₃)
-  by_masks (x ∷ y ∷ z ∷ w ∷ rest) em e l o = absurd (omega arith)
+      rw (em, e₀, e₁, e₂, e₃)
+  by_masks (x ∷ y ∷ z ∷ w ∷ rest) em e l = absurd (omega arith)
 
 -- undefined bits under the masks of an id's row, then the rules on values: the first fault of a group
 pub fault-is : (id : ℕ) (g : Group) → Known id → group_id id ≡ true
     → first_undefined (row_number id) g (value_fault id g) ≡ first_refusal (faults (row_at id) g.header (own (row_at id) g))
 fault-is id g k t =
-    let o = group_ordinary id t in
     ap (λ (j : ℕ). first_undefined (row_number id) g (value_fault j g)) (sym k.own-id)
-    ∙ by_masks (row_at id) g.header g.second g.third g.fourth _ _ _ _ (row_at id).more refl k.masks (k.length_more o ∙ ap (λ (b : Bool). cond b 3 0) t)
-    (ap (λ (i : ℕ). eqb i 0x34) k.own-id ∙ o)
+    ∙ by_masks (row_at id) g.header g.second g.third g.fourth _ _ _ _ (row_at id).more refl k.masks (k.length_more ∙ ap (λ (b : Bool). cond b 3 0) t)
 
 -- a fault among four, or a later one
 found_first : (a b c d : Bool) (p q r s next : Refusal) → found p ≡ true → found q ≡ true → found r ≡ true → found s ≡ true
@@ -115,12 +114,12 @@ no_words i [] = refl
 no_words i (m ∷ ms) = refl
 
 -- a command of one word has one rule
-pub single-fault : (id h : ℕ) → Known id → group_id id ≡ false → eqb id 0x34 ≡ false
+pub single-fault : (id h : ℕ) → Known id → group_id id ≡ false
     → first_refusal (faults (row_at id) h []) ≡ unless_defined 0 h (mask_at (row_number id) 0) no_refusal
-unfolding faults value_faults more_masks
-single-fault id h k f o =
+unfolding faults
+single-fault id h k f =
     let m : mask_at (row_number id) 0 ≡ (row_at id).mask = let q = k.masks in cc in
-    rw (m, ap (λ (i : ℕ). eqb i 0x34) k.own-id ∙ o, no_words 1 (row_at id).more, unruled_values (row_at id).id h [] (ap ruled k.own-id ∙ k.one_word f))
+    rw (m, no_words 1 (row_at id).more, unruled_values (row_at id).id h [] (ap ruled k.own-id ∙ k.one_word f))
 
 -- the first fault, and what stands behind the faults
 pub first-fault : (m : ℕ) (fs : List Fault) (d : Decoded) → OfFaults (Proper m) fs
@@ -134,7 +133,7 @@ first-fault m (f ∷ fs) d p =
     ]) refl
 
 -- a rule on values is broken near the command's first word
-pub first_near : (m : ℕ) (fs : List Fault) → OfFaults (Proper m) fs → (first_refusal fs).word ≤ m
+first_near : (m : ℕ) (fs : List Fault) → OfFaults (Proper m) fs → (first_refusal fs).word ≤ m
 first_near m [] p = omega arith
 first_near m (f ∷ fs) p =
     (elim f.found as (λ t. f.found ≡ t → (cond t f.why (first_refusal fs)).word ≤ m) [
@@ -143,4 +142,14 @@ first_near m (f ∷ fs) p =
     ]) refl
 
 pub value_near : (id : ℕ) (g : Group) (f : Refusal) → f ≡ value_fault id g → f.word ≤ 3
-value_near id g f e = rw e (first_near 3 (group_faults id g.header (more g)) (values_proper id g.header (more g)))
+value_near id g f e = rw e (first_near 3 (value_faults id g.header (more g)) (values_proper id g.header (more g)))
+
+-- a load, or a primitive, breaks a rule on values
+module _ (g : Group) {f : Faults} {b : Bool} (eb : b ≡ found (first_of f)) where
+  pub load_found : f ≡ load_broken g → b ≡ found (value_fault 0x40 g)
+  unfolding value_faults
+  load_found ef = eb ∙ ap found (ap first_of ef ∙ load-first g)
+
+  pub primitive_found : f ≡ primitive_broken g → b ≡ found (value_fault 0x48 g)
+  unfolding value_faults
+  primitive_found ef = eb ∙ ap found (ap first_of ef ∙ primitive_first g)

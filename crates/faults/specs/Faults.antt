@@ -3,9 +3,10 @@ use Rattle.std.specs.Prelude.{ℕ, Bool, cond, ◌||◌, List, length, take}
 use Rattle.rules.specs.declared.Refusal.{Refusal}
 use Rattle.rules.specs.Word.{undefined}
 use Rattle.rules.specs.Table.{Row}
-use Rattle.rules.specs.Values.{undefined_bit}
+use Rattle.rules.specs.Values.{undefined_bit, value_faults}
 use Rattle.table.specs.declared.Group.{Group}
 use Rattle.table.specs.Tables.{more, mask_at}
+use Rattle.values.specs.First.{first_refusal}
 
 -- 6 of word i, where it has an undefined bit
 abbrev pub unless_defined : ℕ → ℕ → ℕ → Refusal → Refusal
@@ -20,6 +21,10 @@ first_undefined row g next =
 -- the words after the first that a row's command has of a group
 abbrev pub own : Row → Group → List ℕ
 own r g = take (length r.more) (more g)
+
+-- the first rule on values that a group breaks: 7 and 15 to 19
+abbrev pub value_fault : ℕ → Group → Refusal
+value_fault id g = first_refusal (value_faults id g.header (more g))
 
 -- a word of a group has a bit outside its mask
 abbrev pub any_undefined : ℕ → Group → Bool

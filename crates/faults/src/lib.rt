@@ -3,8 +3,8 @@
 ghost use Rattle.std.specs.Prelude.{◌≡◌, cond, ◌<◌};
 ghost use Rattle.rules.specs.Values.{refusal};
 ghost use Rattle.table.specs.Tables.{row_count, mask_table, group};
-ghost use Rattle.values.specs.First.{found, no_refusal, value_fault, first_of};
-ghost use Rattle.faults.specs.Faults.{unless_defined, first_undefined, any_undefined};
+ghost use Rattle.values.specs.First.{found, no_refusal, first_of};
+ghost use Rattle.faults.specs.Faults.{unless_defined, first_undefined, any_undefined, value_fault};
 
 use masks::Masks;
 use rules::{NO_BIT, Refusal};

@@ -1,7 +1,6 @@
 // The normal form of a list: the normaliser, and the measurer, which tells its length (document 02, Ticket 4).
 ghost use Rattle.std.specs.Prelude.{◌≡◌, length};
 ghost use Rattle.std.proofs.lemmas.List.Edits.{sets};
-ghost use Rattle.rules.specs.Lent.{given, left};
 ghost use Rattle.rules.specs.Answer.{outcome, normalising, measuring, normal_form, IsAccepted};
 
 use draft::Draft;
@@ -11,8 +10,8 @@ use rules::Answer;
 // The form of an accepted list, written as far as the buffer goes, and its length.
 fn form(list: &[u32], image: &[u32], out: &mut [u32]) -> usize
     requires { IsAccepted image.now list.now }
-    ensures value { result ≡ length (normal_form (given image) (given list)) }
-    ensures out_value { left out ≡ sets (given out) 0 (normal_form (given image) (given list)) }
+    ensures value { result ≡ length (normal_form image.now list.now) }
+    ensures out_value { out.new ≡ sets out.old 0 (normal_form image.now list.now) }
 {
     let mut latest = [0u16; 64];
     let mut sent = [0u16; 64];
@@ -29,7 +28,7 @@ fn form(list: &[u32], image: &[u32], out: &mut [u32]) -> usize
 
 // The measurer: from a list and a starting image to the normal form's length. The form is written to no buffer.
 pub fn measure(list: &[u32], image: &[u32]) -> Answer
-    ensures { result ≡ measuring (given list) (given image) }
+    ensures { result ≡ measuring list.now image.now }
 {
     let w = list::check(list, image);
     match w {
@@ -45,7 +44,7 @@ pub fn measure(list: &[u32], image: &[u32]) -> Answer
 // The normaliser: from a list, a starting image and an put buffer to the normal form. A form never has more words than
 // its list: it is measured first only where the buffer is shorter than the list.
 pub fn normalise(list: &[u32], image: &[u32], out: &mut [u32]) -> Answer
-    ensures { outcome result (given image) (left out) ≡ normalising (given list) (given image) (given out) }
+    ensures { outcome result image.now out.new ≡ normalising list.now image.now out.old }
 {
     let w = list::check(list, image);
     match w {

@@ -1,6 +1,5 @@
 // The functions that C and Rust call (xp10.h).
 ghost use Rattle.std.specs.Prelude.{◌≡◌};
-ghost use Rattle.rules.specs.Lent.{given, left};
 ghost use Rattle.rules.specs.Answer.{measuring};
 ghost use Rattle.rules.specs.Pci.{to_pci, from_pci};
 ghost use Rattle.rules.specs.Swap.{reading_in, normalising_in};
@@ -16,7 +15,7 @@ pub extern "C" fn xp10_read(
     answer: &mut [u32],
     mode: u32,
 ) -> u32
-    ensures { call result (left image) (left records) (left answer) ≡ result_of (reading_in (given list) (given image) (given records) mode) (given answer) }
+    ensures { call result image.new records.new answer.new ≡ result_of (reading_in list.now image.old records.old mode) answer.old }
 {
     let a = swap::read(list, image, records, mode);
     answer::write(a, answer);
@@ -32,7 +31,7 @@ pub extern "C" fn xp10_read_scenes(
     records: &mut [u32],
     answer: &mut [u32],
 ) -> u32
-    ensures { call result (left image) (left records) (left answer) ≡ scenes_read (given words) (given table) (given image) (given records) (given answer) }
+    ensures { call result image.new records.new answer.new ≡ scenes_read words.now table.now image.old records.old answer.old }
 {
     let s = session::read_scenes(words, table, image, records);
     answer::write_session(s, answer);
@@ -48,7 +47,7 @@ pub extern "C" fn xp10_normalise(
     answer: &mut [u32],
     mode: u32,
 ) -> u32
-    ensures { call result (given image) (left out) (left answer) ≡ result_of (normalising_in (given list) (given image) (given out) mode) (given answer) }
+    ensures { call result image.now out.new answer.new ≡ result_of (normalising_in list.now image.now out.old mode) answer.old }
 {
     let a = swap::normalise(list, image, out, mode);
     answer::write(a, answer);
@@ -58,7 +57,7 @@ pub extern "C" fn xp10_normalise(
 // The room that the normal form takes.
 #[unsafe(no_mangle)]
 pub extern "C" fn xp10_measure(list: &[u32], image: &[u32], answer: &mut [u32]) -> u32
-    ensures { answered result (left answer) ≡ answer_result (measuring (given list) (given image)) (given answer) }
+    ensures { answered result answer.new ≡ answer_result (measuring list.now image.now) answer.old }
 {
     let a = form::measure(list, image);
     answer::write(a, answer);
@@ -73,7 +72,7 @@ pub extern "C" fn xp10_to_pci(
     pairs: &mut [u32],
     answer: &mut [u32],
 ) -> u32
-    ensures { call result (given image) (left pairs) (left answer) ≡ result_of (to_pci (given list) (given image) (given pairs)) (given answer) }
+    ensures { call result image.now pairs.new answer.new ≡ result_of (to_pci list.now image.now pairs.old) answer.old }
 {
     let a = pci_writer::to_pci(list, image, pairs);
     answer::write(a, answer);
@@ -88,7 +87,7 @@ pub extern "C" fn xp10_from_pci(
     list: &mut [u32],
     answer: &mut [u32],
 ) -> u32
-    ensures { call result (given image) (left list) (left answer) ≡ result_of (from_pci (given pairs) (given image) (given list)) (given answer) }
+    ensures { call result image.now list.new answer.new ≡ result_of (from_pci pairs.now image.now list.old) answer.old }
 {
     let a = pci_reader::from_pci(pairs, image, list);
     answer::write(a, answer);
@@ -98,7 +97,7 @@ pub extern "C" fn xp10_from_pci(
 // Where a scene of a book is.
 #[unsafe(no_mangle)]
 pub extern "C" fn xp10_find_scene(book: &[u32], number: u32, place: &mut [u32]) -> u32
-    ensures { answered result (left place) ≡ place_result (finding_scene (given book) number) (given place) }
+    ensures { answered result place.new ≡ place_result (finding_scene book.now number) place.old }
 {
     let a = book::find(book, number);
     answer::write_place(a, place);
@@ -113,7 +112,7 @@ pub extern "C" fn xp10_write_book(
     book: &mut [u32],
     answer: &mut [u32],
 ) -> u32
-    ensures { written result (left book) (left answer) ≡ book_result (writing_book (given table) (given words) (given book)) (given answer) }
+    ensures { written result book.new answer.new ≡ book_result (writing_book table.now words.now book.old) answer.old }
 {
     let a = book::write_book(table, words, book);
     answer::write_book_answer(a, answer);

@@ -1,6 +1,5 @@
 // A whole list: the cursor that walks it, and the verdict.
 ghost use Rattle.std.specs.Prelude.{◌≡◌, cond, ◌+◌, ◌<◌, length};
-ghost use Rattle.rules.specs.Lent.{given};
 ghost use Rattle.rules.specs.Walk.{walk, parse};
 ghost use Rattle.rules.specs.Values.{refusal};
 ghost use Rattle.rules.specs.Answer.{refused_answer, accepted_answer};
@@ -95,14 +94,11 @@ impl Cursor {
     // One command: refusals 3 to 10, from every state that the cursor stands for.
     fn step(self, rows: &[u8; 256], masks: &Masks, list: &[u32]) -> Step
         requires { Counted self × (self.at < length list.now) × (rows.now ≡ row_table) × (masks.now ≡ mask_table) }
-        ensures { Steps (given list) self result }
+        ensures { Steps list.now self result }
     {
         let id = words::id_of(words::fetch(list, self.at));
         let row = rows[id as usize];
-        if table::SURFACE_TABLE <= row {
-            if id == 0x34 {
-                return self.take(command::decode_table(list, self.at));
-            }
+        if table::UNKNOWN <= row {
             return self.take(command::refused(command::unknown(id), self.at));
         }
         if table::is_known_group(id, row) {
@@ -115,7 +111,7 @@ impl Cursor {
 // The first pass: the whole list is checked and counted, and nothing is written.
 fn walk(rows: &[u8; 256], masks: &Masks, list: &[u32]) -> Walked
     requires { (rows.now ≡ row_table) × (masks.now ≡ mask_table) }
-    ensures { Walks (λ s. walk s 0 0 (given list)) result }
+    ensures { Walks (λ s. walk s 0 0 list.now) result }
 {
     let mut c = Cursor::start();
     while c.at < list.len() {
@@ -181,7 +177,7 @@ pub fn refused(number: u32, word: usize) -> Walked
 
 // The verdict on a list, before anything is written: refusals 1 to 10, or the counts.
 pub fn check(list: &[u32], image: &[u32]) -> Walked
-    ensures { result ≡ walked_of (parse (given image) (given list)) }
+    ensures { result ≡ walked_of (parse image.now list.now) }
 {
     if 4096 < list.len() {
         return refused(1, 4096);

@@ -46,8 +46,6 @@ const MASKS: Masks = [
     0x00FFFFFF, 0x00FFFFFF, 0x0FFF0FFF, 0x0FFF0FFF,
     // C4 LOD bias enables
     0x00000000, 0xFFFFFFFF, 0xFFFFFFFF, 0xFFFFFFFF,
-    // 34 surface table, an entry
-    0x00BFFFFF, 0x07FFFFFF, 0xFFFFFFFF, 0xFFFFFFFF,
 ];
 
 pub fn mask_table() -> Masks

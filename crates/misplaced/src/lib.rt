@@ -1,6 +1,5 @@
 // Refusals 13 and 14: which of them, and where, only a refusal asks (document 02, Ticket 1).
 ghost use Rattle.std.specs.Prelude.{◌≡◌, ◌<◌, length};
-ghost use Rattle.rules.specs.Lent.{given};
 ghost use Rattle.rules.specs.Pci.{values, misplaced, outside};
 ghost use Rattle.command.specs.View.{size_at};
 ghost use Rattle.misplaced.specs.View.{behind, or_else, Leading};
@@ -11,7 +10,7 @@ use table::Group;
 // The words of the command at a pair, of one that is cut too.
 fn size_at(pairs: &[u32], at: usize) -> usize
     requires { at < length (values pairs.now) }
-    ensures { result ≡ size_at (values (given pairs)) at }
+    ensures { result ≡ size_at (values pairs.now) at }
 {
     let w = pairs::value_at(pairs, at);
     let g = Group {
@@ -26,7 +25,7 @@ fn size_at(pairs: &[u32], at: usize) -> usize
 // How many pairs of a command, from its first on, are there and stand at its addresses.
 fn leading(pairs: &[u32], at: usize, words: usize, id: u8) -> usize
     requires { at < length (values pairs.now) }
-    ensures { Leading (given pairs) at words id result }
+    ensures { Leading pairs.now at words id result }
 {
     let n = pairs.len() / 2;
     let mut i: usize = 0;
@@ -45,7 +44,7 @@ fn leading(pairs: &[u32], at: usize, words: usize, id: u8) -> usize
 // The first refusal 13 or 14 from a command's first pair on, else the one given.
 pub fn refuse_pairs(pairs: &[u32], start: usize, f: Refusal) -> Refusal
     requires { start < length (values pairs.now) }
-    ensures { result ≡ or_else (misplaced outside 0 start (behind start (given pairs))) f }
+    ensures { result ≡ or_else (misplaced outside 0 start (behind start pairs.now)) f }
 {
     let n = pairs.len() / 2;
     let mut at = start;

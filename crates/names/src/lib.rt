@@ -5,7 +5,7 @@ ghost use Rattle.text.specs.Puts.{Puts, Bounded};
 ghost use Rattle.names.specs.Names.{commands, refusals, refusal_row};
 
 // The commands by their ids.
-pub fn commands() -> [u8; 430]
+pub fn commands() -> [u8; 413]
     ensures { result ≡ commands }
 {
     *b"00 flush
@@ -27,7 +27,6 @@ pub fn commands() -> [u8; 430]
 26 extended base
 30 2D overflow base
 31 2D overflow offset
-34 surface table
 40 LOAD_GP
 48 primitive
 84 window clip
@@ -39,28 +38,26 @@ c4 LOD bias enables
 }
 
 // The refusals by their numbers: what each means, and what to look at.
-pub fn refusals() -> [u8; 2159]
+pub fn refusals() -> [u8; 1588]
     ensures { result ≡ refusals }
 {
     *b" 1 more than 4,096 words - split the list
  2 the image has not 256 words - the caller's image, not the list
  3 unknown id - bits 31..24 of that word; often the command before has a wrong length
  4 id 03 or 04 - these go over PCI only, never in a list
- 5 fewer than four words left for a group, or a surface table cut short - the list was cut, or its last command; a table has three words for each entry, header bits 21..16 (Total_Entry) plus one of them
+ 5 fewer than four words left for a group - the list was cut, or its last group
  6 undefined bit set - the bit that the answer names, the lowest one: it must be zero
- 7 illegal value - load code, zero words of a load or primitive, bank 3 of a window clip; of an entry of a surface table bits 21..16 (Total_Entry), at most 47 in the first entry and 0 in a later one, or the id, which is 34
+ 7 illegal value - load code, zero words of a load or primitive, bank 3 of a window clip
  9 payload cut short - the load's length, bits 8..0, counts groups of four words behind its own
 10 follows a surface base and is no BEGIN - put the BEGIN right behind the base
 12 programs only: bytes no multiple of four - the file was cut, or is no list
 13 PCI writes only: not the address that the command asks for - the address; often a value is missing or the command before has a wrong length
-14 PCI writes only: the pairs end inside a command - the writes were cut, or a load's length or a surface table's Total_Entry is too large
+14 PCI writes only: the pairs end inside a command - the writes were cut, or a load's length is too large
 15 window clip: page maximum over the bank's limit - third word, bits 31..28: at most 15, 11 and 6 for banks 0, 1 and 2 (second word, bits 29..28)
 16 window clip: page minimum against the maximum - third word: bits 15..12 (minimum) are at most bits 31..28 (maximum)
 17 raster mode: raster bits - header bit 14 (always full page) may be set only with bit 22 (page-based rendering)
 18 load: bit 23 - header bit 23 (float conversion) may be set only with code 5 in bits 22..20
 19 load: plane range - header bits 18..10 (offset) and 8..0 (length): their sum is at most 8 with code 5
-26 surface table: tiling against the mode - second word of the entry, bit 26 (Enable_Tiled): it may be set only with mode 1, 3 or 5 in bits 14..12 of the first
-27 surface table: end address below the base - third word of the entry: bits 15..0 (end) are at least bits 31..16 (base)
 "
 }
 

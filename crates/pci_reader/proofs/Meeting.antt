@@ -1,5 +1,5 @@
 -- The command at a pair, by the tests that the code makes.
-use Prim.Native.Nat.{ℕ, ◌+◌, ◌-◌, ◌*◌, ◌^◌, ◌≤◌, ◌<◌}
+use Prim.Native.Nat.{ℕ, ◌+◌, ◌-◌, ◌^◌, ◌≤◌, ◌<◌}
 use native.Mathlib.Nat.{zero-add}
 use native.Mathlib.Omega.{arith}
 use mathlib.Core.Path.{◌≡◌, refl, ap, ap₂, sym, ◌∙◌}
@@ -8,29 +8,25 @@ use mathlib.Core.List.{List}
 use mathlib.Core.Option.{Option, none, some}
 use lib.Dec.{eqb, leb}
 use borrow.Author.Tests.{le-leb, leb-true, le-ltb}
-use lib.ListN.{length, get_or, take, drop, length-drop}
-use lib.Seq.{sets, length-take-le}
+use lib.ListN.{length, get_or}
 use Rattle.rules.specs.declared.Refusal.{Refusal}
-use Rattle.rules.specs.Word.{id_of}
-use Rattle.rules.specs.Command.{total_entry, payload}
+use Rattle.rules.specs.Command.{payload}
 use Rattle.rules.specs.Values.{shift}
 use Rattle.rules.specs.Form.{read}
 use Rattle.rules.specs.Walk.{walk}
 use Rattle.rules.specs.Pci.{address_count, address, values, unless}
 use Rattle.theory.proofs.Valid.{first_holds}
-use Rattle.theory.proofs.Bools.{and_left, and_right, not_both}
+use Rattle.theory.proofs.Bools.{and_left, and_right}
 use Rattle.table.specs.declared.Group.{Group}
 use Rattle.table.specs.Ids.{group_id}
 use Rattle.table.specs.Tables.{more, group_at}
-use Rattle.table.proofs.Tables.{ordinary, group_ordinary}
-use Rattle.values.specs.First.{found, value_fault}
-use Rattle.faults.specs.Faults.{any_undefined}
+use Rattle.values.specs.First.{found}
+use Rattle.faults.specs.Faults.{any_undefined, value_fault}
 use Rattle.command.specs.declared.Decoded.{Decoded}
 use Rattle.command.specs.declared.Decoded.TheVariants as decoded
-use Rattle.surfaces.specs.View.{table_fault}
-use Rattle.command.specs.View.{size_at, refused_at, group_of, surfaces_of, if_legal, whole_group, decoded_at, KnownAt, SurfacesAt}
-use Rattle.command.proofs.Sizes.{surface_at, size-group, size-single}
-use Rattle.command.proofs.Decoding.{group_valued, table-length, surfaces_decoded}
+use Rattle.command.specs.View.{size_at, refused_at, group_of, if_legal, whole_group, decoded_at, KnownAt}
+use Rattle.command.proofs.Sizes.{size-group, size-single}
+use Rattle.command.proofs.Decoding.{group_valued}
 use Rattle.list.specs.declared.Cursor.{Cursor}
 use Rattle.list.specs.declared.Step.TheVariants.{On, Refused}
 use Rattle.list.specs.declared.Walked.TheVariants as walked
@@ -39,9 +35,7 @@ use Rattle.list.proofs.Steps.{step-taken, inside-after, Walking, walking_start, 
 use Rattle.pairs.specs.View.{addresses}
 use Rattle.placed.specs.View.{placed}
 use Rattle.misplaced.specs.View.{or_else, misplaced_from}
-use Rattle.theory.proofs.Image.{front}
-use Rattle.pairs.proofs.Pairs.{values-part}
-use Rattle.pci_reader.specs.View.{Met, TablePairs, placed_group, Stepped, walk_pairs}
+use Rattle.pci_reader.specs.View.{Met, placed_group, Stepped, walk_pairs}
 use Rattle.placed.proofs.Placed.{placed-add, placed_again}
 use Rattle.misplaced.proofs.Misplaced.{none_behind, command_passes, command_in_place}
 
@@ -60,96 +54,41 @@ not_of false e = let z : ◌≡◌ {A = Bool} false true = e in cc
 -- a group has four addresses
 four_addresses : (id : ℕ) → group_id id ≡ true → address_count id ≡ 4
 unfolding address_count
-four_addresses id g = rw (group_ordinary id g)
+four_addresses id g = refl
 
-module _ (ps : List ℕ) (at id : ℕ) (inside : at < length (values ps)) (id-is : id ≡ id_of (get_or (values ps) at 0)) where
-  -- a command's pairs are there and in place
+module _ (ps : List ℕ) (at id row : ℕ) (a : KnownAt (values ps) at id row) (small : id < 256) where
+  -- its pairs are there and in place
   there : misplaced_from at ps ≡ none → at + size_at (values ps) at ≤ length (values ps)
-  there e = (command_in_place ps at inside e).0
+  there e = (command_in_place ps at a.inside e).0
 
   placed_here : misplaced_from at ps ≡ none → (n : ℕ) → size_at (values ps) at ≡ n → placed id 0 (read (addresses ps) at n) ≡ true
   placed_here e n s =
-      ap₂ (λ (i m : ℕ). placed i 0 (read (addresses ps) at m)) id-is (sym s) ∙ (command_in_place ps at inside e).1
+      ap₂ (λ (i m : ℕ). placed i 0 (read (addresses ps) at m)) a.id-is (sym s) ∙ (command_in_place ps at a.inside e).1
 
   passes_here : (n : ℕ) → size_at (values ps) at ≡ n → at + n ≤ length (values ps) → placed id 0 (read (addresses ps) at n) ≡ true
       → misplaced_from at ps ≡ misplaced_from (at + n) ps
   passes_here n s f t =
-      command_passes ps at inside n (sym s) f (ap (λ (i : ℕ). placed i 0 (read (addresses ps) at n)) (sym id-is) ∙ t)
+      command_passes ps at a.inside n (sym s) f (ap (λ (i : ℕ). placed i 0 (read (addresses ps) at n)) (sym a.id-is) ∙ t)
 
--- ---- a surface table
-
-module _ (ps : List ℕ) (at : ℕ) (a : SurfacesAt (values ps) at) (n : ℕ) (en : n ≡ 3 * (total_entry (get_or (values ps) at 0) + 1)) where
-  table-size : size_at (values ps) at ≡ n
-  table-size = surface_at (values ps) at a.id-is ∙ sym en
-
-  -- its pairs are there and in place, or not
-  abbrev whole : Bool
-  whole = leb n (length (values ps) - at) && placed 0x34 0 (read (addresses ps) at n)
-
-  pub surfaces-misplaced : (leb n (length (values ps) - at) && placed 0x34 0 (read (addresses ps) at n)) ≡ false → misplaced_from at ps ≡ none → ⊥
-  surfaces-misplaced t e =
-      let all : whole ≡ true = ap₂ (λ (b c : Bool). b && c) (le-leb n (length (values ps) - at) (omega (arith, there ps at 0x34 a.inside (sym a.id-is) e, table-size)))
-      (placed_here ps at 0x34 a.inside (sym a.id-is) e n table-size) in
-      not_both whole all t
-
-  module _ (t : (leb n (length (values ps) - at) && placed 0x34 0 (read (addresses ps) at n)) ≡ true) where
-    pub surfaces-inside : at + n ≤ length (values ps)
-    surfaces-inside = omega (arith, a.inside, leb-true n (length (values ps) - at) (and_left (leb n (length (values ps) - at)) _ t))
-
-    pub surfaces-met : (ws : List ℕ) → ws ≡ take n (drop at (values ps)) → Met ps at (surfaces_of at ws)
-    surfaces-met ws ew = by_fault (found (table_fault ws)) refl
-      where
-        is : decoded_at (values ps) at ≡ surfaces_of at ws
-        is = surfaces_decoded (values ps) at a n en surfaces-inside ws ew
-
-        passed : misplaced_from at ps ≡ misplaced_from (at + length ws) ps
-        passed =
-            passes_here ps at 0x34 a.inside (sym a.id-is) n table-size surfaces-inside (and_right (leb n (length (values ps) - at)) _ t)
-            ∙ ap (λ (m : ℕ). misplaced_from (at + m) ps) (sym (table-length (values ps) at a n en surfaces-inside ws ew))
-
-        by_fault : (b : Bool) → found (table_fault ws) ≡ b
-            → Met ps at (cond b (decoded.Refused (shift at (table_fault ws))) (decoded.Command (record { words = length ws; setting = false; begin = false; base = false })))
-        by_fault true e = λ q. sym (is ∙ rw e)
-        by_fault false e = (sym (is ∙ rw e), passed)
-
--- its values copied
-module _ (ps : List ℕ) (at n : ℕ) (t : TablePairs ps at n) where
-  pub part_length : length (take n (drop at (values ps))) ≡ n
-  part_length = length-take-le n (drop at (values ps)) (omega (arith, t.inside, length-drop at (values ps)))
-
-  pub table-few : n ≤ 192
-  table-few = omega (arith, part_length, t.table)
-
-  part-values : values (take (2 * (at + n) - 2 * at) (drop (2 * at) ps)) ≡ take n (drop at (values ps))
-  part-values = values-part ps at n (2 * (at + n) - 2 * at) (omega arith)
-
-  pub values-few : length (values (take (2 * (at + n) - 2 * at) (drop (2 * at) ps))) ≤ 192
-  values-few = omega (arith, ap length part-values, part_length, table-few)
-
-  pub copied : (before after : List ℕ) → 192 ≤ length before → after ≡ sets before 0 (values (take (2 * (at + n) - 2 * at) (drop (2 * at) ps)))
-      → take n after ≡ take n (drop at (values ps))
-  copied before after h e = ap (take n) (e ∙ ap (sets before 0) part-values) ∙ front (take n (drop at (values ps))) before n part_length (omega (arith, h, table-few))
-
-module _ (ps : List ℕ) (at id row : ℕ) (a : KnownAt (values ps) at id row) (small : id < 256) where
   -- ---- a command of one word
 
   module _ (single : group_id id ≡ false) where
     one : size_at (values ps) at ≡ 1
-    one = size-single (values ps) at id a.id-is small single (ordinary id (omega (arith, a.row_is, a.known)))
+    one = size-single (values ps) at id a.id-is small single
 
     pub single_bit : (u : Bool) → (not (eqb (get_or (addresses ps) at 0) (address id 0)) || u) ≡ true → misplaced_from at ps ≡ none → u ≡ true
     single_bit u t e =
         or_right (not (eqb (get_or (addresses ps) at 0) (address id 0))) u
-        (not_of (eqb (get_or (addresses ps) at 0) (address id 0)) (and_left (eqb (get_or (addresses ps) at 0) (address id 0)) true (placed_here ps at id a.inside a.id-is e 1 one))) t
+        (not_of (eqb (get_or (addresses ps) at 0) (address id 0)) (and_left (eqb (get_or (addresses ps) at 0) (address id 0)) true (placed_here e 1 one))) t
 
     pub single_passes : eqb (get_or (addresses ps) at 0) (address id 0) ≡ true → misplaced_from at ps ≡ misplaced_from (at + 1) ps
-    single_passes t = passes_here ps at id a.inside a.id-is 1 one (omega (arith, a.inside)) (ap (λ (b : Bool). b && true) t)
+    single_passes t = passes_here 1 one (omega (arith, a.inside)) (ap (λ (b : Bool). b && true) t)
 
   -- ---- a command of four
 
   module _ (group : group_id id ≡ true) where
     pub group-whole : length (values ps) - at < 4 → misplaced_from at ps ≡ none → ⊥
-    group-whole c e = omega (arith, there ps at id a.inside a.id-is e, size-group (values ps) at id a.id-is small group, a.inside)
+    group-whole c e = omega (arith, there e, size-group (values ps) at id a.id-is small group, a.inside)
 
     module _ (four : at + 4 ≤ length (values ps)) (g : Group) (eg : g ≡ group_at (values ps) at) (n : ℕ) (en : n ≡ payload id g.header (more g)) where
       size : size_at (values ps) at ≡ 4 + n
@@ -171,12 +110,12 @@ module _ (ps : List ℕ) (at id row : ℕ) (a : KnownAt (values ps) at id row) (
           ∙ ap (λ (b : Bool). own && b) (placed_again id 0 (read (addresses ps) (at + 4) n))
 
       pub group_bit : (u : Bool) → (not (placed id 0 (read (addresses ps) at 4)) || u) ≡ true → misplaced_from at ps ≡ none → u ≡ true
-      group_bit u t e = or_right (not own) u (not_of own (and_left own _ (sym parts ∙ placed_here ps at id a.inside a.id-is e (4 + n) size))) t
+      group_bit u t e = or_right (not own) u (not_of own (and_left own _ (sym parts ∙ placed_here e (4 + n) size))) t
 
       behind-there : misplaced_from at ps ≡ none → behind ≡ true
       behind-there e =
-          ap₂ (λ (b c : Bool). b && c) (le-leb n (length (values ps) - (at + 4)) (omega (arith, there ps at id a.inside a.id-is e, size)))
-          (and_right own _ (sym parts ∙ placed_here ps at id a.inside a.id-is e (4 + n) size))
+          ap₂ (λ (b c : Bool). b && c) (le-leb n (length (values ps) - (at + 4)) (omega (arith, there e, size)))
+          (and_right own _ (sym parts ∙ placed_here e (4 + n) size))
 
       behind-inside : behind ≡ true → at + (4 + n) ≤ length (values ps)
       behind-inside u =
@@ -190,7 +129,7 @@ module _ (ps : List ℕ) (at id row : ℕ) (a : KnownAt (values ps) at id row) (
         by_place : found (value_fault id g) ≡ false → (p : Bool) → behind ≡ p → Met ps at (cond p (group_of (4 + n) row) (refused_at 9 at))
         by_place f true u = (
           sym (valued ∙ rw (f, le-ltb (length (values ps)) (at + (4 + n)) (behind-inside u))),
-          passes_here ps at id a.inside a.id-is (4 + n) size (behind-inside u) (parts ∙ ap₂ (λ (b c : Bool). b && c) t (and_right (leb n (length (values ps) - (at + 4))) _ u)),
+          passes_here (4 + n) size (behind-inside u) (parts ∙ ap₂ (λ (b c : Bool). b && c) t (and_right (leb n (length (values ps) - (at + 4))) _ u)),
         )
         by_place f false u = λ e. let z : ◌≡◌ {A = Bool} true false = sym (behind-there e) ∙ u in let y : ◌≡◌ {A = ℕ} 0 1 = cc in absurd (omega arith)
 

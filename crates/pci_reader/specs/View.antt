@@ -1,10 +1,9 @@
 -- What the code of this crate has in hand between two pairs.
-use Rattle.std.specs.Prelude.{ℕ, ◌+◌, ◌-◌, ◌≤◌, ◌≡◌, cond, ◌&&◌, List, leb, length, take, drop}
+use Rattle.std.specs.Prelude.{ℕ, ◌+◌, ◌-◌, ◌≡◌, cond, ◌&&◌, List, leb, length}
 use Rattle.std.proofs.Math.Option.{none}
 use Rattle.rules.specs.Form.{read}
 use Rattle.rules.specs.Walk.{State, Parsed, walk}
 use Rattle.rules.specs.Pci.{values, misplaced, outside, unless}
-use Rattle.surfaces.specs.View.{IsTable}
 use Rattle.command.specs.declared.Decoded.{Decoded}
 use Rattle.command.specs.declared.Decoded.TheVariants as decoded
 use Rattle.command.specs.View.{refused_at, group_of, decoded_at}
@@ -21,11 +20,6 @@ use Rattle.misplaced.specs.View.{misplaced_from}
 abbrev pub Met : List ℕ → ℕ → Decoded → Type 0
 Met ps at (decoded.Refused f) = misplaced_from at ps ≡ none → decoded.Refused f ≡ decoded_at (values ps) at
 Met ps at (decoded.Command k) = (decoded.Command k ≡ decoded_at (values ps) at) × (misplaced_from at ps ≡ misplaced_from (at + k.words) ps)
-
--- a whole surface table in the values of n pairs
-pub record TablePairs (ps : List ℕ) (at n : ℕ) : Type 0 where
-  pub inside : at + n ≤ length (values ps)
-  pub table : IsTable (take n (drop at (values ps)))
 
 -- a group at a pair with some words behind its own, or 9 where their pairs are not there or not in place
 abbrev pub placed_group : List ℕ → ℕ → ℕ → ℕ → ℕ → Decoded

@@ -1,17 +1,16 @@
 // The list that writes over PCI carry (document 02, Ticket 1).
 //
 // A pair is two words of a buffer, address first. Pair `at` carries word `at` of the list.
-ghost use Rattle.std.specs.Prelude.{◌≡◌, true, false, ◌+◌, ◌<◌, ◌≤◌, length, take, drop};
+ghost use Rattle.std.specs.Prelude.{◌≡◌, true, false, ◌+◌, ◌<◌, ◌≤◌, length};
 ghost use Rattle.std.proofs.lemmas.List.Edits.{sets};
-ghost use Rattle.rules.specs.Lent.{given, left};
 ghost use Rattle.rules.specs.Command.{payload};
 ghost use Rattle.rules.specs.Pci.{values, parse_pairs, from_pci};
 ghost use Rattle.rules.specs.Answer.{outcome};
 ghost use Rattle.table.specs.Ids.{group_id};
 ghost use Rattle.table.specs.Tables.{row_table, mask_table, more};
-ghost use Rattle.command.specs.View.{surfaces_of, if_legal, KnownAt, SurfacesAt};
+ghost use Rattle.command.specs.View.{if_legal, KnownAt};
 ghost use Rattle.list.specs.View.{walked_of, Walks, Counted};
-ghost use Rattle.pci_reader.specs.View.{Met, TablePairs, placed_group, walk_pairs, Stepped};
+ghost use Rattle.pci_reader.specs.View.{Met, placed_group, walk_pairs, Stepped};
 
 use command::Decoded;
 use list::{Cursor, Step, Walked};
@@ -22,11 +21,11 @@ use table::Group;
 // A command of one word. Where a pair is out of place, here and below, any refusal will do: 13 or 14 comes before it.
 fn decode_single(masks: &Masks, pairs: &[u32], at: usize, id: u8, row: u8) -> Decoded
     requires { KnownAt (values pairs.now) at id row × (group_id id ≡ false) × (masks.now ≡ mask_table) }
-    ensures { Met (given pairs) at result }
+    ensures { Met pairs.now at result }
 {
     let header = words::header_of(pairs::value_at(pairs, at));
     let undefined = masks::undefined(header, masks::mask(masks, row, 0));
-    if (pairs::address_at(pairs, at) != pairs::group_address(id, 0)) | undefined {
+    if (pairs::address_at(pairs, at) != pairs::address(id, 0)) | undefined {
         return command::refused_fault(at, faults::undefined_fault(row, header, 0, 0, 0));
     }
     command::single_command(row)
@@ -35,7 +34,7 @@ fn decode_single(masks: &Masks, pairs: &[u32], at: usize, id: u8, row: u8) -> De
 // A load and its payload, by its own words, which have no undefined bit.
 fn load_command(pairs: &[u32], at: usize, row: u8, g: Group) -> Decoded
     requires { at + 4 ≤ length (values pairs.now) }
-    ensures { result ≡ if_legal at 0x40 g (placed_group (given pairs) at 0x40 (payload 0x40 g.header (more g)) row) }
+    ensures { result ≡ if_legal at 0x40 g (placed_group pairs.now at 0x40 (payload 0x40 g.header (more g)) row) }
 {
     if faults::any(values::load_faults(g)) {
         return command::refused_fault(
@@ -44,7 +43,7 @@ fn load_command(pairs: &[u32], at: usize, row: u8, g: Group) -> Decoded
         );
     }
     let more = command::payload(0x40, g);
-    if !placed::words_placed(pairs, at + 4, more, 0x40) {
+    if !placed::payload_placed(pairs, at + 4, more, 0x40) {
         return command::refused(9, at);
     }
     command::group_command(4 + more, row)
@@ -53,7 +52,7 @@ fn load_command(pairs: &[u32], at: usize, row: u8, g: Group) -> Decoded
 // A command of four words and its payload.
 fn decode_group(masks: &Masks, pairs: &[u32], at: usize, id: u8, row: u8) -> Decoded
     requires { KnownAt (values pairs.now) at id row × (group_id id ≡ true) × (masks.now ≡ mask_table) }
-    ensures { Met (given pairs) at result }
+    ensures { Met pairs.now at result }
 {
     if pairs.len() / 2 - at < 4 {
         return command::refused(5, at);
@@ -74,41 +73,14 @@ fn decode_group(masks: &Masks, pairs: &[u32], at: usize, id: u8, row: u8) -> Dec
     command::other_command(at, id, row, g)
 }
 
-// A surface table whose pairs are in place: its values, at most 192, are copied and taken as the words of a list.
-fn table_command(pairs: &[u32], at: usize, words: usize) -> Decoded
-    requires { TablePairs pairs.now at words }
-    ensures { result ≡ surfaces_of at (take words (drop at (values (given pairs)))) }
-{
-    let start = 2 * at;
-    let end = 2 * (at + words);
-    let mut copy = [0u32; 192];
-    write_values(&pairs[start..end], &mut copy);
-    command::table_command(at, &copy[..words])
-}
-
-// A surface table.
-fn decode_table(pairs: &[u32], at: usize) -> Decoded
-    requires { SurfacesAt (values pairs.now) at }
-    ensures { Met (given pairs) at result }
-{
-    let words = surfaces::table_words(pairs::value_at(pairs, at));
-    if !placed::table_placed(pairs, at, words) {
-        return command::refused(5, at);
-    }
-    table_command(pairs, at, words)
-}
-
 // One command: its refusal, or the cursor after it.
 fn step(rows: &[u8; 256], masks: &Masks, pairs: &[u32], c: Cursor) -> Step
     requires { Counted c × (c.at < length (values pairs.now)) × (rows.now ≡ row_table) × (masks.now ≡ mask_table) }
-    ensures { Stepped (given pairs) c result }
+    ensures { Stepped pairs.now c result }
 {
     let id = words::id_of(pairs::value_at(pairs, c.at));
     let row = rows[id as usize];
-    if table::SURFACE_TABLE <= row {
-        if id == 0x34 {
-            return c.take(decode_table(pairs, c.at));
-        }
+    if table::UNKNOWN <= row {
         return c.take(command::refused(command::unknown(id), c.at));
     }
     if table::is_known_group(id, row) {
@@ -120,7 +92,7 @@ fn step(rows: &[u8; 256], masks: &Masks, pairs: &[u32], c: Cursor) -> Step
 // The first pass: all pairs are checked, and nothing is written.
 fn walk(rows: &[u8; 256], masks: &Masks, pairs: &[u32]) -> Walked
     requires { (rows.now ≡ row_table) × (masks.now ≡ mask_table) }
-    ensures { Walks (walk_pairs (given pairs)) result }
+    ensures { Walks (walk_pairs pairs.now) result }
 {
     let n = pairs.len() / 2;
     let mut c = Cursor::start();
@@ -136,7 +108,7 @@ fn walk(rows: &[u8; 256], masks: &Masks, pairs: &[u32]) -> Walked
 
 // The verdict on pairs, before anything is written: refusals 1, 2, 13, 14 and 3 to 10, or the counts.
 fn check(pairs: &[u32], image: &[u32]) -> Walked
-    ensures { result ≡ walked_of (parse_pairs (given image) (given pairs)) }
+    ensures { result ≡ walked_of (parse_pairs image.now pairs.now) }
 {
     if 4096 < pairs.len() / 2 {
         return list::refused(1, 4096);
@@ -153,7 +125,7 @@ fn check(pairs: &[u32], image: &[u32]) -> Walked
 // The list that pairs carry.
 pub fn write_values(pairs: &[u32], list: &mut [u32])
     requires { length (values pairs.now) ≤ length list.old }
-    ensures { left list ≡ sets (given list) 0 (values (given pairs)) }
+    ensures { list.new ≡ sets list.old 0 (values pairs.now) }
 {
     let mut i: usize = 0;
     while i < pairs.len() / 2 {
@@ -164,7 +136,7 @@ pub fn write_values(pairs: &[u32], list: &mut [u32])
 
 // From writes over PCI and a register image to the list that they carry.
 pub fn from_pci(pairs: &[u32], image: &[u32], list: &mut [u32]) -> Answer
-    ensures { outcome result (given image) (left list) ≡ from_pci (given pairs) (given image) (given list) }
+    ensures { outcome result image.now list.new ≡ from_pci pairs.now image.now list.old }
 {
     let words = pairs.len() / 2;
     let w = check(pairs, image);

@@ -1,6 +1,6 @@
 -- The pairs of a list: of some words, of a command, and of the commands passed.
-use Prim.Native.Nat.{ℕ, zero, suc, ◌+◌, ◌*◌, ◌%◌, ◌≤◌, ◌<◌}
-use native.Mathlib.Nat.{add-zero, zero-add}
+use Prim.Native.Nat.{ℕ, zero, suc, ◌+◌, ◌*◌, ◌≤◌, ◌<◌}
+use native.Mathlib.Nat.{add-zero}
 use native.Mathlib.Numerals.{add-one, add-two, add-three}
 use native.Mathlib.Omega.{arith}
 use mathlib.Core.Path.{◌≡◌, refl, ap, ap₂, sym, ◌∙◌}
@@ -15,11 +15,10 @@ use Rattle.rules.specs.Form.{read}
 use Rattle.rules.specs.Pci.{address, pairs_from, command_pairs, pairs_all}
 use Rattle.theory.proofs.Image.{sets_append}
 use Rattle.theory.proofs.Pci.{pairs_length}
-use Rattle.pairs.proofs.Pairs.{entry_again}
 use Rattle.table.specs.Tables.{row_at}
 use Rattle.table.proofs.Tables.{Known, known}
 use Rattle.command.specs.View.{size_at}
-use Rattle.command.proofs.Sizes.{size-known, surface_at}
+use Rattle.command.proofs.Sizes.{size-known}
 use Rattle.command.specs.Effects.{command_at, CommandAt}
 use Rattle.command.proofs.Standing.{command_at_lem}
 use Rattle.list.proofs.Position.{Position, position-start, position_end, AtCommand, after, at_command}
@@ -31,47 +30,29 @@ from-length : (id k : ℕ) (l : List ℕ) (at n : ℕ) → length (pairs_from id
 from-length id k l at zero = refl
 from-length id k l at (suc n) = omega (arith, from-length id (suc k) l (suc at) n)
 
--- some words more are their pairs more
-from-add : (id k : ℕ) (l : List ℕ) (at i j : ℕ)
-    → pairs_from id k (read l at (i + j)) ≡ pairs_from id k (read l at i) ++ pairs_from id (k + i) (read l (at + i) j)
-from-add id k l at zero j = rw (zero-add j, add-zero k, add-zero at)
-from-add id k l at (suc i) j =
-    let n : suc i + j ≡ suc (i + j) = omega arith in
-    let ek : suc k + i ≡ k + suc i = omega arith in
-    let ea : suc at + i ≡ at + suc i = omega arith in
-    rw n (ap {B = List ℕ} (λ x. address id k ∷ get_or l at 0 ∷ x) (from-add id (suc k) l (suc at) i j ∙ rw (ek, ea)))
-
--- a surface table's addresses in turn
-from_again : (i k : ℕ) (ws : List ℕ) → i % 3 ≡ 0 → pairs_from 0x34 (i + k) ws ≡ pairs_from 0x34 k ws
-from_again i k [] h = refl
-from_again i k (w ∷ ws) h =
-    let on : suc (i + k) ≡ i + suc k = omega arith in
-    ap₂ {C = List ℕ} (λ (a : ℕ) (ps : List ℕ). a ∷ w ∷ ps) (entry_again i k h) (ap (λ (n : ℕ). pairs_from 0x34 n ws) on ∙ from_again i (suc k) ws h)
+-- one word more is one pair more
+from-add : (id k : ℕ) (l : List ℕ) (at n : ℕ)
+    → pairs_from id k (read l at (suc n)) ≡ pairs_from id k (read l at n) ++ (address id (k + n) ∷ get_or l (at + n) 0 ∷ [])
+from-add id k l at zero = rw (add-zero k, add-zero at)
+from-add id k l at (suc n) =
+    let ek : suc k + n ≡ k + suc n = omega arith in
+    let ea : suc at + n ≡ at + suc n = omega arith in
+    ap {B = List ℕ} (λ x. address id k ∷ get_or l at 0 ∷ x) (from-add id (suc k) l (suc at) n ∙ rw (ek, ea))
 
 module _ (out l : List ℕ) (id at : ℕ) where
-  -- pairs written behind those of the words before them
-  pairs_on : (i j : ℕ)
-      → sets (sets out (2 * at) (pairs_from id 0 (read l at i))) (2 * (at + i)) (pairs_from id i (read l (at + i) j))
-      ≡ sets out (2 * at) (pairs_from id 0 (read l at (i + j)))
-  pairs_on i j =
-      let ps : List ℕ = pairs_from id 0 (read l at i) in
-      let n : 2 * at + length ps ≡ 2 * (at + i) = omega (arith, from-length id 0 l at i) in
-      sym (ap (sets out (2 * at)) (from-add id 0 l at i j) ∙ sets_append out (2 * at) ps (pairs_from id (0 + i) (read l (at + i) j)) ∙ rw (n, zero-add i))
-
-  -- one of them
+  -- a pair written behind those of the words before it
   pub pair_on : (i : ℕ)
       → set (set (sets out (2 * at) (pairs_from id 0 (read l at i))) (2 * (at + i)) (address id i)) (2 * (at + i) + 1) (get_or l (at + i) 0)
       ≡ sets out (2 * at) (pairs_from id 0 (read l at (i + 1)))
-  pair_on i = rw (add-one (2 * (at + i))) (pairs_on i 1)
+  pair_on i =
+      let ps : List ℕ = pairs_from id 0 (read l at i) in
+      let n : 2 * at + length ps ≡ 2 * (at + i) = omega (arith, from-length id 0 l at i) in
+      let z : 0 + i ≡ i = omega arith in
+      sym (ap (λ (k : ℕ). sets out (2 * at) (pairs_from id 0 (read l at k))) (add-one i)
+      ∙ ap (sets out (2 * at)) (from-add id 0 l at i)
+      ∙ sets_append out (2 * at) ps (address id (0 + i) ∷ get_or l (at + i) 0 ∷ []) ∙ rw (n, z, add-one))
 
-  -- the pairs of an entry, and those of a group
-  pub three_pairs : set (set (sets out (2 * at) (address id 0 ∷ get_or l at 0 ∷ address id 1 ∷ get_or l (at + 1) 0 ∷ [])) (2 * at + 4) (address id 2)) (2 * at + 5) (get_or l (at + 2) 0)
-      ≡ sets out (2 * at) (pairs_from id 0 (read l at 3))
-  three_pairs =
-      let n : 2 * at + 5 ≡ suc (2 * at + 4) = omega arith in
-      rw (n, add-one at, add-two at)
-      (sym (sets_append out (2 * at) (address id 0 ∷ get_or l at 0 ∷ address id 1 ∷ get_or l (suc at) 0 ∷ []) (address id 2 ∷ get_or l (suc (suc at)) 0 ∷ [])))
-
+  -- the pairs of a group, in two halves
   pub four_pairs : sets (sets out (2 * at) (address id 0 ∷ get_or l at 0 ∷ address id 1 ∷ get_or l (at + 1) 0 ∷ [])) (2 * at + 4)
       (address id 2 ∷ get_or l (at + 2) 0 ∷ address id 3 ∷ get_or l (at + 3) 0 ∷ [])
       ≡ sets out (2 * at) (pairs_from id 0 (read l at 4))
@@ -79,15 +60,6 @@ module _ (out l : List ℕ) (id at : ℕ) where
       rw (add-one at, add-two at, add-three at)
       (sym (sets_append out (2 * at) (address id 0 ∷ get_or l at 0 ∷ address id 1 ∷ get_or l (suc at) 0 ∷ [])
       (address id 2 ∷ get_or l (suc (suc at)) 0 ∷ address id 3 ∷ get_or l (suc (suc (suc at))) 0 ∷ [])))
-
--- an entry of a surface table behind those before it
-pub entry-on : (out l : List ℕ) (at i : ℕ) → i % 3 ≡ 0
-    → sets (sets out (2 * at) (pairs_from 0x34 0 (read l at i))) (2 * (at + i)) (pairs_from 0x34 0 (read l (at + i) 3))
-    ≡ sets out (2 * at) (pairs_from 0x34 0 (read l at (i + 3)))
-entry-on out l at i h =
-    let ws : List ℕ = read l (at + i) 3 in
-    ap (sets (sets out (2 * at) (pairs_from 0x34 0 (read l at i))) (2 * (at + i))) (sym (from_again i 0 ws h) ∙ ap (λ (n : ℕ). pairs_from 0x34 n ws) (add-zero i))
-    ∙ pairs_on out l 0x34 at i 3
 
 -- ---- of a command
 
@@ -107,10 +79,6 @@ module _ (l : List ℕ) (at : ℕ) (h : CommandAt l at) (w : ℕ) (ew : w ≡ ge
 
   k : Known id
   k = known id small (rw ei h.known)
-
-  -- a surface table's words, three for each entry
-  pub table-words : (n : ℕ) → n ≡ size_at l at → id ≡ 0x34 → n % 3 ≡ 0
-  table-words n s e = omega (arith, surface_at l at (sym ei ∙ e))
 
   -- its words are those of the list there
   command-words : words (command_at l at) ≡ read l at (size_at l at)

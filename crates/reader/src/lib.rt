@@ -3,7 +3,6 @@
 // The list is checked before, and nothing is checked again.
 ghost use Rattle.std.specs.Prelude.{◌≡◌, ◌+◌, ◌≤◌, length};
 ghost use Rattle.std.proofs.lemmas.List.Edits.{sets};
-ghost use Rattle.rules.specs.Lent.{given, left};
 ghost use Rattle.rules.specs.Image.{apply, final};
 ghost use Rattle.rules.specs.Answer.{outcome, reading, IsAccepted, commands_from, records_from};
 ghost use Rattle.table.specs.Ids.{setting_kind};
@@ -25,7 +24,7 @@ pub struct Place {
 // A setting of four words goes to the image.
 fn set_group(list: &[u32], image: &mut [u32], at: usize)
     requires { CommandAt list.now at × (setting_kind (id_at list.now at) ≡ 2) × (length image.old ≡ 256) }
-    ensures { left image ≡ apply (command_at (given list) at) (given image) }
+    ensures { image.new ≡ apply (command_at list.now at) image.old }
 {
     let g = command::group_at(list, at);
     let id = words::id_of(words::fetch(list, at)) as usize;
@@ -35,7 +34,7 @@ fn set_group(list: &[u32], image: &mut [u32], at: usize)
 // A setting of one word does.
 fn set_single(list: &[u32], image: &mut [u32], at: usize)
     requires { CommandAt list.now at × (setting_kind (id_at list.now at) ≡ 1) × (length image.old ≡ 256) }
-    ensures { left image ≡ apply (command_at (given list) at) (given image) }
+    ensures { image.new ≡ apply (command_at list.now at) image.old }
 {
     let w = words::fetch(list, at);
     let id = words::id_of(w) as usize;
@@ -45,7 +44,7 @@ fn set_single(list: &[u32], image: &mut [u32], at: usize)
 // What a work command leaves in the image.
 fn leave_header(list: &[u32], image: &mut [u32], at: usize)
     requires { CommandAt list.now at × (setting_kind (id_at list.now at) ≡ 0) × (length image.old ≡ 256) }
-    ensures { left image ≡ apply (command_at (given list) at) (given image) }
+    ensures { image.new ≡ apply (command_at list.now at) image.old }
 {
     let w = words::fetch(list, at);
     let id = words::id_of(w);
@@ -62,7 +61,7 @@ fn leave_header(list: &[u32], image: &mut [u32], at: usize)
 // A work command gives a record.
 fn write_record(list: &[u32], records: &mut [u32], at: usize, written: usize, words: usize)
     requires { CommandAt list.now at × (setting_kind (id_at list.now at) ≡ 0) × (words ≡ size_at list.now at) × (written + 4 ≤ length records.old) }
-    ensures { left records ≡ sets (given records) written (record_at (given list) at) }
+    ensures { records.new ≡ sets records.old written (record_at list.now at) }
 {
     let w = words::fetch(list, at);
     words::put4(
@@ -83,7 +82,7 @@ fn apply_work(
     written: usize,
 ) -> Place
     requires { Applies list.now at written image.old records.old × (setting_kind (id_at list.now at) ≡ 0) }
-    ensures { Applied (given list) at written (given image) (given records) result (left image) (left records) }
+    ensures { Applied list.now at written image.old records.old result image.new records.new }
 {
     let words = command::size_at(list, at);
     leave_header(list, image, at);
@@ -103,7 +102,7 @@ fn apply_command(
     written: usize,
 ) -> Place
     requires { Applies list.now at written image.old records.old }
-    ensures { Applied (given list) at written (given image) (given records) result (left image) (left records) }
+    ensures { Applied list.now at written image.old records.old result image.new records.new }
 {
     let id = words::id_of(words::fetch(list, at));
     if Settings::contains(id) {
@@ -126,8 +125,8 @@ fn apply_command(
 // The image and the records of an accepted list.
 fn apply_list(list: &[u32], image: &mut [u32], buffer: &mut [u32])
     requires { IsAccepted image.old list.now × (length (records_from image.old list.now) ≤ length buffer.old) }
-    ensures image_value { left image ≡ final (given image) (commands_from (given image) (given list)) }
-    ensures buffer_value { left buffer ≡ sets (given buffer) 0 (records_from (given image) (given list)) }
+    ensures image_value { image.new ≡ final image.old (commands_from image.old list.now) }
+    ensures buffer_value { buffer.new ≡ sets buffer.old 0 (records_from image.old list.now) }
 {
     let mut p = Place { at: 0, written: 0 };
     while p.at < list.len() {
@@ -137,7 +136,7 @@ fn apply_list(list: &[u32], image: &mut [u32], buffer: &mut [u32])
 
 // The reader: from a list, a register image and a record buffer to a verdict, the new image and the records of work.
 pub fn read(list: &[u32], image: &mut [u32], records: &mut [u32]) -> Answer
-    ensures { outcome result (left image) (left records) ≡ reading (given list) (given image) (given records) }
+    ensures { outcome result image.new records.new ≡ reading list.now image.old records.old }
 {
     let w = list::check(list, image);
     match w {

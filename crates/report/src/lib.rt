@@ -1,7 +1,6 @@
 // The listing of a command list, as text in a lent buffer.
 ghost use Rattle.std.specs.Prelude.{◌≡◌, ◌≤◌, length, take};
 ghost use Rattle.std.proofs.lemmas.List.Edits.{sets};
-ghost use Rattle.rules.specs.Lent.{given, left};
 ghost use Rattle.rules.specs.Answer.{reading};
 ghost use Rattle.text.specs.Puts.{Puts, Bounded};
 ghost use Rattle.report.specs.Listing.{words_read, listed, printing, printed};
@@ -12,7 +11,7 @@ use rules::Answer;
 // The listing of an answer, from the words of the records.
 fn put_answer(text: &mut [u8], a: Answer, records: &[u32]) -> usize
     requires { Bounded 0 (listed a records.now) }
-    ensures { Puts (listed a (given records)) (given text) 0 (left text) result }
+    ensures { Puts (listed a records.now) text.old 0 text.new result }
 {
     if a.verdict != 0 {
         return lines::put_refused(text, words::wide(a.verdict), a.position);
@@ -31,7 +30,7 @@ fn put_list(
     text: &mut [u8],
 ) -> usize
     requires { n ≤ length words.now }
-    ensures { Prints (reading (take n (given words)) (given image) (given records)) (left image) (left records) (given text) (left text) result }
+    ensures { Prints (reading (take n words.now) image.old records.old) image.new records.new text.old text.new result }
 {
     let a = reader::read(&words[..n], image, records);
     let k = a.words;
@@ -47,8 +46,8 @@ pub fn listing(
     records: &mut [u32; 16384],
     text: &mut [u8],
 ) -> usize
-    ensures words_value { left words ≡ sets (given words) 0 (words_read (given input)) }
-    ensures text_value { printing result (left image) (left records) (left text) ≡ printed (given input) (given image) (given records) (given text) }
+    ensures words_value { words.new ≡ sets words.old 0 (words_read input.now) }
+    ensures text_value { printing result image.new records.new text.new ≡ printed input.now image.old records.old text.old }
     ensures upper_bound { result ≤ 82003 }
 {
     if 16384 < input.len() {

@@ -1,6 +1,6 @@
 -- Cases P1 to P12 and N1 to N4 (document 01, "Cases on each side", as document 02, Tickets 2 and 3, changes them), lists
--- measured, the masks of a list's words, the guide's own PCI writes, surface tables, sessions, lists in the other byte orders, and
--- scene books, in one table.
+-- measured, the masks of a list's words, the guide's own PCI writes, sessions, lists in the other byte orders, and scene books, in
+-- one table.
 use Rattle.std.specs.Prelude.{ℕ, zero, suc, Bool, true, ◌&&◌, ◌||◌, List, [], ◌∷◌, ◌++◌, eqb, length, get_or, drop, replicate, set}
 use Rattle.rules.specs.declared.Refusal.{Refusal}
 use Rattle.rules.specs.Place.{word_mask}
@@ -131,10 +131,6 @@ abbrev null_primitives : ℕ → List ℕ
 null_primitives zero = []
 null_primitives (suc n) = 0x48000000 ∷ 0 ∷ 0 ∷ 0 ∷ null_primitives n
 
--- a surface table of two entries
-abbrev surfaces : List ℕ
-surfaces = 0x34010000 ∷ 0 ∷ 0 ∷ 0x34000000 ∷ 0 ∷ 0x00010001 ∷ []
-
 -- lists of a session: a surface base at the end of the first, 4 at the second word of (4, 2), 6 at the last word
 abbrev scenes : List ℕ
 scenes = 0x02000010 ∷ 0x00000001 ∷ 0x21000000 ∷ 0x00000002 ∷ 0x02000020 ∷ 0x03000000 ∷ 0x01000002 ∷ []
@@ -220,29 +216,6 @@ cases =
     -- the bit and a clash of the list that pairs carry
     ∷ from_zeros (0x2800 ∷ 0 ∷ 0x2804 ∷ 0x01000003 ∷ []) (pairs_refused_as (told 6 1 0))
     ∷ from_zeros (0x2A20 ∷ 0x88004000 ∷ 0x2A24 ∷ 0 ∷ 0x2A28 ∷ 0 ∷ 0x2A2C ∷ 0 ∷ []) (pairs_refused_at 17 0)
-    -- a surface table: its record, its masks, and its words in a form; end equal to base, and tiling in mode 1
-    ∷ from_zeros surfaces (records_are (0x34 ∷ 0 ∷ 6 ∷ 0x010000 ∷ []))
-    ∷ from_zeros surfaces (masks_are (0xFFBFFFFF ∷ 0x07FFFFFF ∷ 0xFFFFFFFF ∷ 0xFFBFFFFF ∷ 0x07FFFFFF ∷ 0xFFFFFFFF ∷ []))
-    ∷ from_zeros (0x02000010 ∷ 0x02000020 ∷ surfaces) (normal_form_is (0x02000020 ∷ surfaces))
-    ∷ from_zeros (0x34001000 ∷ 0x04000000 ∷ 0x00010001 ∷ []) (commands 1)
-    -- cut; Total_Entry 48, with 48 entries and with 49, and not zero in a later one; another id there
-    ∷ from_zeros (0x34010000 ∷ 0 ∷ 0 ∷ 0x34000000 ∷ 0 ∷ []) (refused_at 5 0)
-    ∷ from_zeros (0x34300000 ∷ replicate 143 0) (refused_at 5 0)
-    ∷ from_zeros (0x34300000 ∷ replicate 146 0) (refused_at 7 0)
-    ∷ from_zeros (0x34010000 ∷ 0 ∷ 0 ∷ 0x34010000 ∷ 0 ∷ 0 ∷ []) (refused_at 7 3)
-    ∷ from_zeros (0x34010000 ∷ 0 ∷ 0 ∷ 0x35000000 ∷ 0 ∷ 0 ∷ []) (refused_at 7 3)
-    -- 6 in the last entry before 7 in the second, 7 there before 26 in the first; entry by entry 26, then 27
-    ∷ from_zeros (0x34020000 ∷ 0 ∷ 0 ∷ 0x35000000 ∷ 0 ∷ 0 ∷ 0x34400000 ∷ 0 ∷ 0 ∷ []) (refused_as (told 6 6 22))
-    ∷ from_zeros (0x34010000 ∷ 0x04000000 ∷ 0 ∷ 0x35000000 ∷ 0 ∷ 0 ∷ []) (refused_at 7 3)
-    ∷ from_zeros (0x34010000 ∷ 0 ∷ 0x00020001 ∷ 0x34000000 ∷ 0x04000000 ∷ 0 ∷ []) (refused_at 27 0)
-    ∷ from_zeros (0x34010000 ∷ 0 ∷ 0 ∷ 0x34000000 ∷ 0x04000000 ∷ 0x00020001 ∷ []) (refused_at 26 3)
-    ∷ from_zeros (0x21000000 ∷ 0x34000000 ∷ 0x04000000 ∷ 0 ∷ []) (refused_at 26 1)
-    ∷ from_zeros (0x21000000 ∷ 0x34000000 ∷ 0 ∷ 0 ∷ []) (refused_at 10 1)
-    -- each entry again at the first three addresses; a wrong one; a table over 47 that is cut
-    ∷ from_zeros surfaces
-    (writes_are (0x28D0 ∷ 0x34010000 ∷ 0x28D4 ∷ 0 ∷ 0x28D8 ∷ 0 ∷ 0x28D0 ∷ 0x34000000 ∷ 0x28D4 ∷ 0 ∷ 0x28D8 ∷ 0x00010001 ∷ []))
-    ∷ from_zeros (0x28D0 ∷ 0x34010000 ∷ 0x28D4 ∷ 0 ∷ 0x28D8 ∷ 0 ∷ 0x28DC ∷ 0x34000000 ∷ []) (pairs_refused_at 13 3)
-    ∷ from_zeros (0x28D0 ∷ 0x34300000 ∷ 0x28D4 ∷ 0 ∷ 0x28D8 ∷ 0 ∷ []) (pairs_refused_at 14 0)
     -- a list behind a surface base need not open with BEGIN; positions inside each list, sums, and the last list's length
     ∷ from_zeros scenes (session_is (0 ∷ 3 ∷ 3 ∷ 2 ∷ []) (0 ∷ 2 ∷ 5 ∷ 3 ∷ 12 ∷ 32 ∷ 2 ∷ []) (flip_records ++ next_record) 0x20)
     -- a refusal, of a command, of its bit, and for want of room: the lists before stay applied and counted

@@ -1,5 +1,5 @@
 -- A command of a list.
-use Rattle.std.specs.Prelude.{ℕ, zero, suc, ◌+◌, ◌*◌, cond, List, [], ◌∷◌, ◌++◌, eqb, length, take}
+use Rattle.std.specs.Prelude.{ℕ, suc, ◌+◌, ◌*◌, cond, List, [], ◌∷◌, ◌++◌, eqb, length, take}
 use Rattle.std.proofs.Math.Option.{Option, none, some}
 use Rattle.rules.specs.Word.{bits, id_of, header_of, first_word}
 use Rattle.rules.specs.Table.{Row, row_of}
@@ -17,20 +17,9 @@ abbrev pub words_all : List Command → List ℕ
 words_all [] = []
 words_all (c ∷ cs) = words c ++ words_all cs
 
--- A surface table, MultiSurfaces_Load (001, 3.5; document 02, Ticket 9): "three words per entry, packed without padding, with
--- Total_Entry plus one entries; that count is our ruling, over 47 too". Total_Entry, bits 21..16 of a first word, is how many
--- entries follow the first.
-abbrev pub total_entry : ℕ → ℕ
-total_entry w = bits w 16 6
-
--- the masks of n entries, by their row. "The first word of each entry carries id 34": the id's bits are no undefined ones.
-abbrev pub entry_masks : Row → ℕ → List ℕ
-entry_masks r zero = []
-entry_masks r (suc n) = first_word 0xFF r.mask ∷ (r.more ++ entry_masks r n)
-
--- the masks of a command's own words after the first: its row's, and of a surface table those of the entries behind the first
-unfoldable pub more_masks : Row → ℕ → List ℕ
-more_masks r header = cond (eqb r.id 0x34) (r.more ++ entry_masks r (total_entry header)) r.more
+-- the masks of a command's own words after the first
+abbrev pub more_masks : Row → ℕ → List ℕ
+more_masks r header = r.more
 
 -- the words behind a command's own, by its header and its own words after the first. LOAD_GP: "bits 8..0 the length. The
 -- group is followed by length groups of four words." Others have no payload.

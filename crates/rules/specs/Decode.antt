@@ -1,5 +1,5 @@
--- One command by itself: refusals 3 to 9 (document 01, "Verdicts and what stays"), 15 to 19 "in 8's old place" and 26 and 27 "in the
--- clash place" (document 02, Tickets 2 and 9).
+-- One command by itself: refusals 3 to 9 (document 01, "Verdicts and what stays"), 15 to 19 "in 8's old place" (document 02,
+-- Ticket 2).
 use Rattle.std.specs.Prelude.{ℕ, cond, ◌||◌, List, eqb, ltb, length, take}
 use Rattle.std.proofs.Math.Option.{Option, none, some}
 use Rattle.rules.specs.Word.{id_of, header_of}
@@ -13,7 +13,7 @@ pub data Decoded : Type 0 where
   bad : Refusal → Decoded
   good : Command → Decoded
 
--- 5 "fewer than four words left for a group" and "for a cut table", 6, 7, 15 to 19, 26 and 27, then 9 "payload cut short":
+-- 5 "fewer than four words left for a group", 6, 7, 15 to 19, then 9 "payload cut short":
 -- the command of a row with a header, before the words that follow it in the list
 unfoldable pub decode_row : Row → ℕ → List ℕ → Decoded
 decode_row r h ws =

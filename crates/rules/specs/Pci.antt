@@ -11,10 +11,10 @@ use Rattle.rules.specs.Answer.{Outcome, write_parsed}
 -- ---- from a list to pairs
 
 -- How many addresses a command has, which its words go to in turn. "A group's four words go there and to the next three addresses
--- in steps of 4. Each payload group of a load uses the load's own four addresses again. BEGIN counts as a group". Of a surface table
--- "each entry uses the command's first three addresses again" (Ticket 9). A command of one word asks for the first alone.
+-- in steps of 4. Each payload group of a load uses the load's own four addresses again. BEGIN counts as a group". A command of one
+-- word asks for the first alone.
 unfoldable pub address_count : ℕ → ℕ
-address_count id = cond (eqb id 0x34) 3 4
+address_count id = 4
 
 -- The address of word k, from 0 on, of a command: "a one-word command goes to 2800 hex plus id × 4".
 unfoldable pub address : ℕ → ℕ → ℕ

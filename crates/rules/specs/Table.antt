@@ -20,7 +20,7 @@ line is m ms k = record { ids = is; mask = m; more = ms; kind = k }
 abbrev full : List ℕ
 full = 0xFFFFFFFF ∷ 0xFFFFFFFF ∷ 0xFFFFFFFF ∷ []
 
--- the table, as the paper has it, and Ticket 9's row behind it
+-- the table, as the paper has it
 abbrev pub lines : List Line
 lines =
     line (0x00 ∷ []) 0xFFFFFF [] plain
@@ -39,8 +39,6 @@ lines =
     ∷ line (0x8C ∷ []) 0xFFFFFF full setting
     ∷ line (0x90 ∷ []) 0xFFFFFF (0x00FFFFFF ∷ 0x0FFF0FFF ∷ 0x0FFF0FFF ∷ []) setting
     ∷ line (0xC4 ∷ []) 0x000000 full setting
-    -- MultiSurfaces_Load (001, 3.5; document 02, Ticket 9): the words of an entry
-    ∷ line (0x34 ∷ []) 0xBFFFFF (0x07FFFFFF ∷ 0xFFFFFFFF ∷ []) plain
     ∷ []
 
 -- the row of a command: its id, with its masks and its kind
@@ -90,7 +88,7 @@ is_begin begins = true
 unfoldable pub is_base : ℕ → Bool
 is_base i = eqb i 0x21 || (eqb i 0x23 || eqb i 0x25)
 
--- "One mask means a command of one word, four masks a group of four." Three masks mean a table of entries of three words.
+-- "One mask means a command of one word, four masks a group of four."
 abbrev pub size : Row → ℕ
 size r = suc (length r.more)
 

@@ -1,10 +1,10 @@
 -- The rules on a command's own words: undefined bits, illegal values and clashes (document 01, "The commands"; document 02,
--- Tickets 2, 3 and 9).
-use Rattle.std.specs.Prelude.{ℕ, suc, ◌+◌, Bool, cond, not, ◌&&◌, ◌||◌, List, [], ◌∷◌, ◌++◌, eqb, leb, ltb, get_or, drop}
+-- Tickets 2 and 3).
+use Rattle.std.specs.Prelude.{ℕ, suc, ◌+◌, Bool, cond, not, ◌&&◌, ◌||◌, List, [], ◌∷◌, ◌++◌, eqb, leb, ltb, get_or}
 use Rattle.rules.specs.declared.Refusal.{Refusal}
-use Rattle.rules.specs.Word.{bits, id_of, lowest_undefined, undefined}
+use Rattle.rules.specs.Word.{bits, lowest_undefined, undefined}
 use Rattle.rules.specs.Table.{Row}
-use Rattle.rules.specs.Command.{total_entry, more_masks}
+use Rattle.rules.specs.Command.{more_masks}
 
 -- a refusal's number and word. Of the bit, "every other verdict gives 32 there".
 abbrev pub refusal : ℕ → ℕ → Refusal
@@ -90,9 +90,9 @@ clip_faults a b =
 abbrev pub raster_faults : ℕ → List Fault
 raster_faults h = fault (eqb (bits h 22 1) 0 && eqb (bits h 14 1) 1) 17 0 ∷ []
 
--- 7 at the lowest such word, then "in 8's old place" 15 to 19, of a group with the given words after its first
-unfoldable pub group_faults : ℕ → ℕ → List ℕ → List Fault
-group_faults id h own =
+-- 7 at the lowest such word, then "in 8's old place" 15 to 19, of a command with the given words after its first
+unfoldable pub value_faults : ℕ → ℕ → List ℕ → List Fault
+value_faults id h own =
     let a = get_or own 0 0 in
     let b = get_or own 1 0 in
     let c = get_or own 2 0 in
@@ -101,46 +101,7 @@ group_faults id h own =
     (cond (eqb id 0x84) (clip_faults a b)
     (cond (eqb id 0x88) (raster_faults h) [])))
 
--- A surface table (001, 3.5) has three words for each entry, D0 to D2. In the first word of a later entry, 7 "for a wrong
--- Total_Entry or entry id": "Total_Entry is 0 to 47 in the first entry and zero in later ones. The first word of each entry carries
--- id 34."
-abbrev pub wrong_later : ℕ → Bool
-wrong_later w = not (eqb (id_of w) 0x34) || not (eqb (total_entry w) 0)
-
--- 26 "tiling against mode": "Enable_Tiled may be set only in modes 1, 3 and 5"; "D0 [14:12] .. Mode", "D1 [26] Enable_Tiled"
-abbrev pub tiles_wrongly : ℕ → ℕ → Bool
-tiles_wrongly w a =
-    let mode = bits w 12 3 in
-    eqb (bits a 26 1) 1 && not (eqb mode 1 || (eqb mode 3 || eqb mode 5))
-
--- 27 "end below base": "D2 [31:16] Buffer_Base_Address", "D2 [15:0] Buffer_End_Address"
-abbrev pub ends_below : ℕ → Bool
-ends_below b = ltb (bits b 0 16) (bits b 16 16)
-
--- 7 of the entries from word i of the command on, which are later ones
-abbrev pub later_faults : ℕ → List ℕ → List Fault
-later_faults i [] = []
-later_faults i (w ∷ []) = []
-later_faults i (w ∷ a ∷ []) = []
-later_faults i (w ∷ a ∷ b ∷ ws) = fault (wrong_later w) 7 i ∷ later_faults (i + 3) ws
-
--- 26 and 27 "entry by entry, at the entry's first word", from word i on
-abbrev pub entry_clashes : ℕ → List ℕ → List Fault
-entry_clashes i [] = []
-entry_clashes i (w ∷ []) = []
-entry_clashes i (w ∷ a ∷ []) = []
-entry_clashes i (w ∷ a ∷ b ∷ ws) = fault (tiles_wrongly w a) 26 i ∷ fault (ends_below b) 27 i ∷ entry_clashes (i + 3) ws
-
--- 7 of the first entry and of the later ones, then 26 and 27 "in the clash place"
-abbrev pub surface_faults : ℕ → List ℕ → List Fault
-surface_faults h own = fault (ltb 47 (total_entry h)) 7 0 ∷ (later_faults 3 (drop 2 own) ++ entry_clashes 0 (h ∷ own))
-
--- the rules on values
-unfoldable pub value_faults : ℕ → ℕ → List ℕ → List Fault
-unfolding group_faults
-value_faults id h own = cond (eqb id 0x34) (surface_faults h own) (group_faults id h own)
-
--- 6, 7, and 15 to 19, 26 and 27 in this order: a number goes over all the words before the next, but for 26 and 27
+-- 6, 7 and 15 to 19 in this order: a number goes over all the words before the next
 unfoldable pub faults : Row → ℕ → List ℕ → List Fault
-unfolding more_masks value_faults
+unfolding value_faults
 faults r h own = undefined_faults 0 (r.mask ∷ more_masks r h) (h ∷ own) ++ value_faults r.id h own

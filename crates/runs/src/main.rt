@@ -53,10 +53,10 @@ fn run_all(cases: &[u8]) {
 }
 
 // Only its length is told, which lending it needs.
-fn case_buffer() -> [u8; 500000]
-    ensures { 500000 ≡ length result }
+fn case_buffer() -> [u8; 400000]
+    ensures { 400000 ≡ length result }
 {
-    [0; 500000]
+    [0; 400000]
 }
 
 fn main() {

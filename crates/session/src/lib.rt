@@ -2,7 +2,6 @@
 //
 // Each list is read by the reader's own call; here its answers are added up.
 ghost use Rattle.std.specs.Prelude.{◌≡◌, cond, ◌/◌, ◌≤◌, ◌<◌, length};
-ghost use Rattle.rules.specs.Lent.{given, left};
 ghost use Rattle.rules.specs.Session.{in_session, no_lists, added, pair_call, with_pair_of, reading_scenes, Bounded};
 ghost use Rattle.rules.specs.Answer.{outcome};
 
@@ -51,7 +50,7 @@ fn read_pair(
     image: &mut [u32],
     records: &mut [u32],
 ) -> Answer
-    ensures { outcome result (left image) (left records) ≡ pair_call (given words) start length lists (given image) (given records) }
+    ensures { outcome result image.new records.new ≡ pair_call words.now start length lists image.old records.old }
 {
     let first = words::wide(start);
     let end = first + words::wide(length);
@@ -74,7 +73,7 @@ fn read_next(
     s: SessionAnswer,
 ) -> SessionAnswer
     requires { Bounded s × (s.answer.words ≤ length records.old) × (s.lists < length table.now / 2) }
-    ensures { in_session result (left image) (left records) ≡ with_pair_of (given words) (given table) s.lists (in_session s (given image) (given records)) }
+    ensures { in_session result image.new records.new ≡ with_pair_of words.now table.now s.lists (in_session s image.old records.old) }
 {
     let at = 2 * s.lists;
     let used = s.answer.words;
@@ -91,7 +90,7 @@ pub fn read_scenes(
     image: &mut [u32],
     records: &mut [u32],
 ) -> SessionAnswer
-    ensures { in_session result (left image) (left records) ≡ reading_scenes (given words) (given table) (given image) (given records) }
+    ensures { in_session result image.new records.new ≡ reading_scenes words.now table.now image.old records.old }
 {
     let mut s = no_lists();
     while s.lists < table.len() / 2 {

@@ -6,14 +6,13 @@
 // bit for each setting set; rising bits are rising ids. A word past the end of a buffer is not written.
 ghost use Rattle.std.specs.Prelude.{◌≡◌, [], ◌∷◌, ◌+◌, ◌<◌, ◌≤◌, length};
 ghost use Rattle.std.proofs.lemmas.List.Edits.{sets};
-ghost use Rattle.rules.specs.Lent.{given, left};
 ghost use Rattle.rules.specs.Word.{id_of};
 ghost use Rattle.rules.specs.Form.{read, equal};
 ghost use Rattle.settings.specs.Output.{singles_in, groups_in, put, longest, is_built, emit_one, emit_all, emit_changed, CanEmit, CanEmitAll, CanEmitChanged};
 
 fn put_group(out: &mut [u32], n: usize, a: u32, b: u32, c: u32, d: u32)
     requires { n ≤ longest }
-    ensures { left out ≡ sets (given out) n (a ∷ b ∷ c ∷ d ∷ []) }
+    ensures { out.new ≡ sets out.old n (a ∷ b ∷ c ∷ d ∷ []) }
 {
     if n + 4 <= out.len() {
         words::put4(out, n, a, b, c, d);
@@ -27,7 +26,7 @@ fn put_group(out: &mut [u32], n: usize, a: u32, b: u32, c: u32, d: u32)
 
 fn same_group(w: u32, b: u32, c: u32, d: u32, s: &[u32], at: usize) -> bool
     requires { at + 4 ≤ length s.now }
-    ensures { result ≡ equal (read (given s) at 4) (w ∷ b ∷ c ∷ d ∷ []) }
+    ensures { result ≡ equal (read s.now at 4) (w ∷ b ∷ c ∷ d ∷ []) }
 {
     ((s[at] == w) & (s[at + 1] == b)) & ((s[at + 2] == c) & (s[at + 3] == d))
 }
@@ -35,7 +34,7 @@ fn same_group(w: u32, b: u32, c: u32, d: u32, s: &[u32], at: usize) -> bool
 // The form has built the setting with this word: its command last put out has it, or, before any, the starting image.
 fn single_is_built(list: &[u32], image: &[u32], w: u32, before: usize) -> bool
     requires { (id_of w < length image.now) × (before ≤ length list.now) }
-    ensures { result ≡ is_built 0 (given list) (given image) w [] before }
+    ensures { result ≡ is_built 0 list.now image.now w [] before }
 {
     if before == 0 { // not put out yet
         return image[words::id_of(w) as usize] == words::header_of(w);
@@ -54,7 +53,7 @@ fn group_is_built(
     before: usize,
 ) -> bool
     requires { (id_of w + 4 ≤ length image.now) × (before + 3 ≤ length list.now) }
-    ensures { result ≡ is_built 3 (given list) (given image) w (b ∷ c ∷ d ∷ []) before }
+    ensures { result ≡ is_built 3 list.now image.now w (b ∷ c ∷ d ∷ []) before }
 {
     if before == 0 {
         let id = words::id_of(w) as usize;
@@ -74,7 +73,7 @@ fn emit_single(
     i: u32,
 ) -> usize
     requires { CanEmit 0 list.now image.now latest.now i (put n sent.old out.old) }
-    ensures { put result (left sent) (left out) ≡ emit_one 0 (given list) (given image) (given latest) i (put n (given sent) (given out)) }
+    ensures { put result sent.new out.new ≡ emit_one 0 list.now image.now latest.now i (put n sent.old out.old) }
 {
     let k = i as usize;
     let at = latest[k] as usize;
@@ -98,7 +97,7 @@ fn emit_group(
     i: u32,
 ) -> usize
     requires { CanEmit 3 list.now image.now latest.now i (put n sent.old out.old) }
-    ensures { put result (left sent) (left out) ≡ emit_one 3 (given list) (given image) (given latest) i (put n (given sent) (given out)) }
+    ensures { put result sent.new out.new ≡ emit_one 3 list.now image.now latest.now i (put n sent.old out.old) }
 {
     let k = i as usize;
     let at = latest[k] as usize;
@@ -124,7 +123,7 @@ fn emit_singles(
     n: usize,
 ) -> usize
     requires { CanEmitAll 0 list.now image.now latest.now (singles_in changed) (put n sent.old out.old) }
-    ensures { put result (left sent) (left out) ≡ emit_all 0 (given list) (given image) (given latest) (singles_in changed) (put n (given sent) (given out)) }
+    ensures { put result sent.new out.new ≡ emit_all 0 list.now image.now latest.now (singles_in changed) (put n sent.old out.old) }
 {
     let mut m = n;
     let mut left = changed % 65536;
@@ -146,7 +145,7 @@ fn emit_groups(
     n: usize,
 ) -> usize
     requires { CanEmitAll 3 list.now image.now latest.now (groups_in changed) (put n sent.old out.old) }
-    ensures { put result (left sent) (left out) ≡ emit_all 3 (given list) (given image) (given latest) (groups_in changed) (put n (given sent) (given out)) }
+    ensures { put result sent.new out.new ≡ emit_all 3 list.now image.now latest.now (groups_in changed) (put n sent.old out.old) }
 {
     let mut m = n;
     let mut left = changed >> 16;
@@ -169,7 +168,7 @@ fn emit_changed(
     n: usize,
 ) -> usize
     requires { CanEmitChanged changed list.now image.now latest.now (put n sent.old out.old) }
-    ensures { put result (left sent) (left out) ≡ emit_changed changed (given list) (given image) (given latest) (put n (given sent) (given out)) }
+    ensures { put result sent.new out.new ≡ emit_changed changed list.now image.now latest.now (put n sent.old out.old) }
 {
     let m = emit_singles(changed, list, image, latest, sent, out, n);
     emit_groups(changed, list, image, latest, sent, out, m)
@@ -186,7 +185,7 @@ pub fn emit_settings(
     n: usize,
 ) -> usize
     requires { CanEmitChanged changed list.now image.now latest.now (put n sent.old out.old) }
-    ensures { put result (left sent) (left out) ≡ emit_changed changed (given list) (given image) (given latest) (put n (given sent) (given out)) }
+    ensures { put result sent.new out.new ≡ emit_changed changed list.now image.now latest.now (put n sent.old out.old) }
 {
     if changed == 0 {
         return n;

@@ -1,7 +1,6 @@
 // What a list sets and draws, as text in a lent buffer. Each part goes from position `at` on, and the answer is the
 // position behind it.
 ghost use Rattle.std.specs.Prelude.{◌≡◌, ◌+◌, ◌-◌, ◌≤◌, length, get_or};
-ghost use Rattle.rules.specs.Lent.{given, left};
 ghost use Rattle.rules.specs.Form.{read, equal};
 ghost use Rattle.rules.specs.Answer.{outcome, reading};
 ghost use Rattle.text.specs.Puts.{Puts, Bounded};
@@ -16,7 +15,7 @@ use table::Settings;
 
 // A word of an image; 0 past its end.
 fn word_at(image: &[u32], i: usize) -> usize
-    ensures { result ≡ get_or (given image) i 0 }
+    ensures { result ≡ get_or image.now i 0 }
 {
     if i < image.len() {
         return words::wide(image[i]);
@@ -27,7 +26,7 @@ fn word_at(image: &[u32], i: usize) -> usize
 // Whether n words from word i on are the same in two images.
 fn same(before: &[u32], after: &[u32], i: usize, n: usize) -> bool
     requires { i + n ≤ 65536 }
-    ensures { result ≡ equal (read (given before) i n) (read (given after) i n) }
+    ensures { result ≡ equal (read before.now i n) (read after.now i n) }
 {
     if n == 0 {
         return true;
@@ -41,7 +40,7 @@ fn same(before: &[u32], after: &[u32], i: usize, n: usize) -> bool
 // n words from word i on.
 fn put_words(text: &mut [u8], at: usize, image: &[u32], i: usize, n: usize) -> usize
     requires { (i + n ≤ 65536) × Bounded at (words_text (read image.now i n)) }
-    ensures { Puts (words_text (read (given image) i n)) (given text) at (left text) result }
+    ensures { Puts (words_text (read image.now i n)) text.old at text.new result }
 {
     if n == 0 {
         return at;
@@ -61,7 +60,7 @@ fn put_setting(
     after: &[u32],
 ) -> usize
     requires { (names.now ≡ commands) × ((id + size ≤ 65536) × Bounded at (setting_line id size before.now after.now)) }
-    ensures { Puts (setting_line id size (given before) (given after)) (given text) at (left text) result }
+    ensures { Puts (setting_line id size before.now after.now) text.old at text.new result }
 {
     let at = format::put_format(text, at, names, b"%2%n", &[id, id]);
     let at = put_words(text, at, before, id, size);
@@ -80,7 +79,7 @@ fn put_change(
     after: &[u32],
 ) -> usize
     requires { (names.now ≡ commands) × ((id + size ≤ 65536) × Bounded at (change_line id size before.now after.now)) }
-    ensures { Puts (change_line id size (given before) (given after)) (given text) at (left text) result }
+    ensures { Puts (change_line id size before.now after.now) text.old at text.new result }
 {
     if same(before, after, id, size) {
         return at;
@@ -91,7 +90,7 @@ fn put_change(
 // The same by an id: nothing where it is no setting's.
 fn put_id(text: &mut [u8], at: usize, names: &[u8], id: u8, before: &[u32], after: &[u32]) -> usize
     requires { (names.now ≡ commands) × Bounded at (id_line id before.now after.now) }
-    ensures { Puts (id_line id (given before) (given after)) (given text) at (left text) result }
+    ensures { Puts (id_line id before.now after.now) text.old at text.new result }
 {
     let kind = Settings::kind(id);
     if kind == Settings::NONE {
@@ -113,7 +112,7 @@ fn put_changes(
     after: &[u32],
 ) -> usize
     requires { (names.now ≡ commands) × ((id ≤ 256) × Bounded at (lines_from (256 - id) id before.now after.now)) }
-    ensures { Puts (lines_from (256 - id) id (given before) (given after)) (given text) at (left text) result }
+    ensures { Puts (lines_from (256 - id) id before.now after.now) text.old at text.new result }
 {
     if id == 256 {
         return at;
@@ -124,7 +123,7 @@ fn put_changes(
 
 fn put_sets(text: &mut [u8], at: usize, names: &[u8], before: &[u32], after: &[u32]) -> usize
     requires { (names.now ≡ commands) × Bounded at (sets_text before.now after.now) }
-    ensures { Puts (sets_text (given before) (given after)) (given text) at (left text) result }
+    ensures { Puts (sets_text before.now after.now) text.old at text.new result }
 {
     let at = text::put_all(text, at, b"sets: id name before -> after\n");
     put_changes(text, at, names, 0, before, after)
@@ -134,7 +133,7 @@ fn put_sets(text: &mut [u8], at: usize, names: &[u8], before: &[u32], after: &[u
 
 fn put_draws(text: &mut [u8], at: usize, names: &[u8], records: &[u32]) -> usize
     requires { (names.now ≡ commands) × Bounded at (draws_text records.now) }
-    ensures { Puts (draws_text (given records)) (given text) at (left text) result }
+    ensures { Puts (draws_text records.now) text.old at text.new result }
 {
     let at = text::put_all(text, at, b"draws: at id words head name\n");
     lines::put_records(text, at, names, b"%d %2 %d %6%n\n", records)
@@ -149,7 +148,7 @@ fn put_accepted(
     form: usize,
 ) -> usize
     requires { length records.now ≤ 16384 }
-    ensures { Puts (accepted_text a (given before) (given after) (given records) form) (given text) 0 (left text) result }
+    ensures { Puts (accepted_text a before.now after.now records.now form) text.old 0 text.new result }
 {
     let names = names::commands();
     let at = lines::put_counts(text, 0, a.commands, a.records);
@@ -166,14 +165,14 @@ fn put_accepted(
 
 // The reader, on an image and records of a fixed size.
 pub fn read(list: &[u32], image: &mut [u32; 256], records: &mut [u32; 16384]) -> Answer
-    ensures { outcome result (left image) (left records) ≡ reading (given list) (given image) (given records) }
+    ensures { outcome result image.new records.new ≡ reading list.now image.old records.old }
 {
     reader::read(list, image, records)
 }
 
 // The verdict on a list from an image, and what it sets and draws; at most 310,000 bytes.
 pub fn put_show(text: &mut [u8], list: &[u32], image: &[u32; 256]) -> usize
-    ensures puts { Puts (show_text (given list) (given image)) (given text) 0 (left text) result }
+    ensures puts { Puts (show_text list.now image.now) text.old 0 text.new result }
     ensures upper_bound { result ≤ 310000 }
 {
     let mut after = *image;

@@ -3,7 +3,6 @@
 // In mode 0 the list itself is read. In modes 1 to 3 it is swapped once, into the smallest of three arrays on the stack that
 // holds it, and that is read: nothing below knows of modes.
 ghost use Rattle.std.specs.Prelude.{◌≡◌, ◌≤◌, length};
-ghost use Rattle.rules.specs.Lent.{given, left};
 ghost use Rattle.rules.specs.Values.{refusal};
 ghost use Rattle.rules.specs.Answer.{outcome, refused_answer};
 ghost use Rattle.rules.specs.Swap.{swap, words_got, reading_in, normalising_in};
@@ -30,7 +29,7 @@ fn swap(word: u32, mode: u32) -> u32
 // The words got from a list go to the front of the room, and that part is handed back.
 fn words_got<'a>(list: &[u32], room: &'a mut [u32], mode: u32) -> &'a [u32]
     requires { length list.now ≤ length room.old }
-    ensures { result.now ≡ words_got mode (given list) }
+    ensures { result.now ≡ words_got mode list.now }
 {
     let mut i = 0;
     while i < list.len() {
@@ -53,7 +52,7 @@ fn no_such_mode() -> Answer
 
 // The reader in a mode. A list that is too long is refused by its length, and its words are not got.
 pub fn read(list: &[u32], image: &mut [u32], records: &mut [u32], mode: u32) -> Answer
-    ensures { outcome result (left image) (left records) ≡ reading_in (given list) (given image) (given records) mode }
+    ensures { outcome result image.new records.new ≡ reading_in list.now image.old records.old mode }
 {
     if 3 < mode {
         return no_such_mode();
@@ -75,7 +74,7 @@ pub fn read(list: &[u32], image: &mut [u32], records: &mut [u32], mode: u32) -> 
 
 // The normaliser in a mode.
 pub fn normalise(list: &[u32], image: &[u32], out: &mut [u32], mode: u32) -> Answer
-    ensures { outcome result (given image) (left out) ≡ normalising_in (given list) (given image) (given out) mode }
+    ensures { outcome result image.now out.new ≡ normalising_in list.now image.now out.old mode }
 {
     if 3 < mode {
         return no_such_mode();

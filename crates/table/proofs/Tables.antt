@@ -7,15 +7,14 @@ use mathlib.Core.Bool.{Bool, true, false, cond, not, ◌&&◌, ◌||◌}
 use mathlib.Core.List.{List, [], ◌∷◌}
 use mathlib.Core.Option.{Option, none, some}
 use lib.Dec.{eqb, leb, ltb}
-use borrow.Author.Tests.{eqb-true, eq-eqb, ne_eqb, ltb-true, not-true}
+use borrow.Author.Tests.{eqb-true, ltb-true, not-true}
 use lib.ListN.{length, get_or}
 use Rattle.rules.specs.Table.{Row, table, row_of, is_setting, is_begin, is_base}
-use Rattle.rules.specs.Command.{more_masks}
 use Rattle.rules.specs.Form.{equal}
-use Rattle.theory.proofs.Bools.{and_left, and_right, neither, or_false}
+use Rattle.theory.proofs.Bools.{and_left, and_right}
 use Rattle.theory.proofs.Image.{equal-true}
-use Rattle.table.specs.Ids.{begin_id, kept_id, setting_id, group_id, long_id, setting_kind, holds, in_set, group_settings, long_ids, kept_ids}
-use Rattle.table.specs.Tables.{begin_row, base_row, surface_row, row_count, setting_row, tabulate, row_number, row_table, or_unknown, row_at, masks_of, mask_at, row_masks, mask_table}
+use Rattle.table.specs.Ids.{begin_id, kept_id, setting_id, group_id, setting_kind, holds, in_set, group_settings, groups, kept_ids}
+use Rattle.table.specs.Tables.{begin_row, base_row, row_count, setting_row, tabulate, row_number, row_table, or_unknown, row_at, masks_of, mask_at, row_masks, mask_table}
 
 -- ---- a table of a rule's values, and a test at each of its numbers
 
@@ -72,20 +71,19 @@ all_of_lem (b ∷ bs) e = (and_left b (all_of bs) e, all_of_lem bs (and_right b 
 
 -- of any id
 id_tests : ℕ → List Bool
-id_tests id = same (begin_id id) (begin_test id) ∷ same (kept_id id) (kept_test id) ∷ eqb (setting_kind id) (kind_test id) ∷ same (long_id id) (in_set long_ids id)
-    ∷ same (eqb id 0x34) (eqb (row_number id) surface_row) ∷ []
+id_tests id = same (begin_id id) (begin_test id) ∷ same (kept_id id) (kept_test id) ∷ eqb (setting_kind id) (kind_test id) ∷ same (group_id id) (in_set groups id) ∷ []
 
--- of a known id: its row is one of them, with the row's masks and, but for the surface table, its size; four words where values
--- have rules; its kind by its row; a BEGIN has four words, and a surface base one
+-- of a known id: its row is one of them, with the row's masks and its size; four words where values have rules; its kind by its
+-- row; a BEGIN has four words, and a surface base one
 row_tests : ℕ → Row → List Bool
 row_tests id r =
     eqb r.id id
     ∷ ltb (row_number id) row_count
     ∷ equal (row_masks (row_number id)) (masks_of r)
-    ∷ (eqb id 0x34 || eqb (length r.more) (cond (group_id id) 3 0))
+    ∷ eqb (length r.more) (cond (group_id id) 3 0)
     ∷ (not (ruled id) || group_id id)
     ∷ same (group_id id) (known_group_test id (row_number id))
-    ∷ (eqb id 0x34 || same (is_setting r.kind) (setting_row (group_id id) (row_number id)))
+    ∷ same (is_setting r.kind) (setting_row (group_id id) (row_number id))
     ∷ same (is_begin r.kind) (eqb (row_number id) begin_row)
     ∷ same (is_base id) (eqb (row_number id) base_row)
     ∷ not (cond (group_id id) (is_base id) (is_begin r.kind))
@@ -99,7 +97,7 @@ fits_at : ℕ → Bool
 fits_at id = all_of (id_tests id) && row_fits id (row_of id)
 
 all_fit : every 256 0 fits_at ≡ true
-unfolding fits_at id_tests row_tests row_fits row_number row_of table mask_at is_base begin_id setting_kind setting_id group_id long_id kept_id kept_ids group_settings long_ids
+unfolding fits_at id_tests row_tests row_fits row_number row_of table mask_at is_base begin_id setting_kind setting_id group_id kept_id kept_ids group_settings groups
 all_fit = refl
 
 -- ---- what it says
@@ -109,10 +107,10 @@ pub record Known (id : ℕ) : Type 0 where
   pub found : row_of id ≡ some (row_at id)
   pub own-id : (row_at id).id ≡ id
   pub masks : row_masks (row_number id) ≡ masks_of (row_at id)
-  pub length_more : eqb id 0x34 ≡ false → length (row_at id).more ≡ cond (group_id id) 3 0
+  pub length_more : length (row_at id).more ≡ cond (group_id id) 3 0
   pub one_word : group_id id ≡ false → ruled id ≡ false
   pub group : group_id id ≡ known_group_test id (row_number id)
-  pub setting-row : eqb id 0x34 ≡ false → is_setting (row_at id).kind ≡ setting_row (group_id id) (row_number id)
+  pub setting-row : is_setting (row_at id).kind ≡ setting_row (group_id id) (row_number id)
   pub begins : is_begin (row_at id).kind ≡ eqb (row_number id) begin_row
   pub base : is_base id ≡ eqb (row_number id) base_row
   pub apart : cond (group_id id) (is_base id) (is_begin (row_at id).kind) ≡ false
@@ -137,10 +135,10 @@ module _ (id : ℕ) where
         own-id = ap (λ (x : Row). x.id) is ∙ eqb-true _ _ t.0;
         small = ltb-true _ _ t.1.0;
         masks = equal-true _ _ t.1.1.0 ∙ ap (λ (x : Row). masks_of x) (sym is);
-        length_more = λ o. ap (λ (x : Row). length x.more) is ∙ eqb-true _ _ (or_false (eqb id 0x34) _ t.1.1.1.0 o);
+        length_more = ap (λ (x : Row). length x.more) is ∙ eqb-true _ _ t.1.1.1.0;
         one_word = unruled _ _ u.0;
         group = same_true _ _ u.1.0;
-        setting-row = λ o. ap (λ (x : Row). is_setting x.kind) is ∙ same_true _ _ (or_false (eqb id 0x34) _ u.1.1.0 o);
+        setting-row = ap (λ (x : Row). is_setting x.kind) is ∙ same_true _ _ u.1.1.0;
         begins = ap (λ (x : Row). is_begin x.kind) is ∙ same_true _ _ u.1.1.1.0;
         base = same_true _ _ u.1.1.1.1.0;
         apart = ap (λ (x : Row). cond (group_id id) (is_base id) (is_begin x.kind)) is ∙ not-true _ u.1.1.1.1.1.0;
@@ -193,48 +191,9 @@ module _ (id : ℕ) where
     unfolding id_tests
     kind-is = sym (eqb-true _ _ tests.1.1.0)
 
-    pub long-is : in_set long_ids id ≡ long_id id
+    pub group-is : in_set groups id ≡ group_id id
     unfolding id_tests
-    long-is = sym (same_true _ _ tests.1.1.1.0)
-
-    surface_is : eqb id 0x34 ≡ eqb (row_number id) surface_row
-    unfolding id_tests
-    surface_is = same_true _ _ tests.1.1.1.1.0
-
-    -- behind the rows of one word and of four, an id other than the surface table's has none
-    pub no_row : surface_row ≤ row_number id → (id ≡ 0x34 → ⊥) → row_of id ≡ none
-    no_row k n =
-        let other : row_number id ≡ surface_row → ⊥ = λ e. n (eqb-true id 0x34 (surface_is ∙ eq-eqb (row_number id) surface_row e)) in
-        unknown-row (omega (arith, other))
-
--- a row of one word or of four is no surface table's, and its own words are those of its row
-pub ordinary : (id : ℕ) → row_number id < surface_row → eqb id 0x34 ≡ false
-unfolding row_number
-ordinary id k = ne_eqb id 0x34 (λ e. let z : row_number id ≡ surface_row = ap row_number e in omega (arith, k, z))
-
-unlike : (p : ℕ → Bool) → p 0x34 ≡ false → (id : ℕ) → p id ≡ true → eqb id 0x34 ≡ false
-unlike p f id t = ne_eqb id 0x34 (λ e. let z : ◌≡◌ {A = Bool} false true = sym f ∙ ap p (sym e) ∙ t in let y : ◌≡◌ {A = ℕ} 0 1 = cc in omega arith)
-
-pub group_ordinary : (id : ℕ) → group_id id ≡ true → eqb id 0x34 ≡ false
-unfolding group_id row_of table
-group_ordinary = unlike group_id refl
-
-pub setting_ordinary : (id : ℕ) → setting_id id ≡ true → eqb id 0x34 ≡ false
-unfolding setting_id row_of table
-setting_ordinary = unlike setting_id refl
-
--- a command of one word is neither, and another one than the surface table a group
-pub not-long : (id : ℕ) → long_id id ≡ false → (eqb id 0x34 ≡ false) × (group_id id ≡ false)
-unfolding long_id
-not-long id e = neither (eqb id 0x34) (group_id id) e
-
-pub long-group : (id : ℕ) → long_id id ≡ true → eqb id 0x34 ≡ false → group_id id ≡ true
-unfolding long_id
-long-group id t o = or_false (eqb id 0x34) (group_id id) t o
-
-pub own-more : (id h : ℕ) → Known id → eqb id 0x34 ≡ false → more_masks (row_at id) h ≡ (row_at id).more
-unfolding more_masks
-own-more id h k o = rw (k.own-id, o)
+    group-is = sym (same_true _ _ tests.1.1.1.0)
 
 pub row_is : (id : ℕ) (r : Row) → row_of id ≡ some r → row_at id ≡ r
 unfolding row_at

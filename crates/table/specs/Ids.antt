@@ -1,5 +1,5 @@
 -- What is asked of an id, for every id: an unknown one is no BEGIN, no setting and no group, and leaves nothing.
-use Rattle.std.specs.Prelude.{ℕ, zero, suc, ◌+◌, ◌*◌, ◌/◌, ◌%◌, ◌^◌, Bool, true, false, cond, ◌&&◌, ◌||◌, eqb, length}
+use Rattle.std.specs.Prelude.{ℕ, zero, suc, ◌+◌, ◌*◌, ◌/◌, ◌%◌, ◌^◌, Bool, true, false, cond, not, ◌&&◌, eqb, length}
 use Rattle.std.proofs.Math.Option.{Option, none, some}
 use Rattle.rules.specs.Table.{Kind, setting, plain, keeps, begins, Row, row_of, is_setting, is_begin}
 
@@ -25,15 +25,10 @@ kept_id id = of_row (λ r. keeps_header r.kind) (row_of id)
 
 -- a command of four words of its own
 abbrev pub is_group : Row → Bool
-is_group r = eqb (length r.more) 3
+is_group r = not (eqb (length r.more) 0)
 
 unfoldable pub group_id : ℕ → Bool
 group_id id = of_row is_group (row_of id)
-
--- a command of more than one word of its own: the surface table, or a group
-unfoldable pub long_id : ℕ → Bool
-unfolding group_id
-long_id id = eqb id 0x34 || group_id id
 
 -- the kinds of the settings' set: none 0, a setting of one word 1, one of four 2
 unfoldable pub setting_kind : ℕ → ℕ
@@ -58,9 +53,9 @@ unfoldable pub group_settings : ℕ
 unfolding setting_kind
 group_settings = set_from 64 0 (λ n. eqb (setting_kind (4 * n)) 2)
 
-unfoldable pub long_ids : ℕ
-unfolding long_id
-long_ids = set_from 64 0 (λ n. long_id (4 * n))
+unfoldable pub groups : ℕ
+unfolding group_id
+groups = set_from 64 0 (λ n. group_id (4 * n))
 
 unfoldable pub kept_ids : ℕ
 unfolding kept_id

@@ -25,10 +25,6 @@ extended_row = 7
 abbrev pub clip_row : ℕ
 clip_row = 11
 
--- and the last, which alone has neither one word nor four
-abbrev pub surface_row : ℕ
-surface_row = 16
-
 -- a setting by its row, of a command of four words and of one
 abbrev pub setting_row : Bool → ℕ → Bool
 setting_row group row = cond group (leb clip_row row) (eqb row timer_row || leb extended_row row)

@@ -2,8 +2,7 @@
 //
 // The table of rows is made once for a whole list and lent: a `const` array is built again at each use.
 ghost use Rattle.std.specs.Prelude.{◌≡◌, ◌<◌, replicate};
-ghost use Rattle.rules.specs.Lent.{left};
-ghost use Rattle.table.specs.Ids.{in_set, begin_id, kept_id, setting_kind, setting_id, group_id, long_id};
+ghost use Rattle.table.specs.Ids.{in_set, begin_id, kept_id, setting_kind, setting_id, group_id};
 ghost use Rattle.table.specs.Tables.{row_count, row_number, row_table};
 
 // The own words of a command of four words: the header, and the next three words.
@@ -17,8 +16,7 @@ pub struct Group {
 
 // ---- rows
 
-// The rows of document 01's table have numbers, from 0 on in its order, and Ticket 9's is behind them. Those that are asked for by
-// number:
+// The rows of document 01's table have numbers, from 0 on in its order. Those that are asked for by number:
 pub const TIMER: u8 = 2;
 
 pub const BEGIN: u8 = 4;
@@ -27,14 +25,11 @@ pub const SURFACE_BASE: u8 = 6;
 
 pub const EXTENDED_BASE: u8 = 7;
 
-// The first setting of four words: all rows behind it but the last are such.
+// The first setting of four words: all rows behind it are such.
 pub const WINDOW_CLIP: u8 = 11;
 
-// The last row: a command of those before it has one word of its own, or four.
-pub const SURFACE_TABLE: u8 = 16;
-
 // How many rows there are.
-pub const ROWS: u8 = 17;
+pub const ROWS: u8 = 16;
 
 // The row of an id that the table does not have.
 pub const UNKNOWN: u8 = ROWS;
@@ -43,7 +38,7 @@ pub const UNKNOWN: u8 = ROWS;
 // store it in many small pieces.
 pub fn fill_rows(rows: &mut [u8; 256])
     requires { rows.old ≡ replicate 256 row_count }
-    ensures { left rows ≡ row_table }
+    ensures { rows.new ≡ row_table }
 {
     rows[0x00] = 0;
     rows[0x01] = 1;
@@ -69,7 +64,6 @@ pub fn fill_rows(rows: &mut [u8; 256])
     rows[0x8C] = 13;
     rows[0x90] = 14;
     rows[0xC4] = 15;
-    rows[0x34] = 16;
 }
 
 // ---- ids: each function is right for every id, unknown ones included
@@ -117,19 +111,19 @@ impl Settings {
     }
 }
 
-// Work commands of more than one word: the four BEGIN, the surface table, LOAD_GP and the primitive.
-const LONG_WORK: u64 = 0x000000000005203C;
+// The groups that are work: the four BEGIN, LOAD_GP and the primitive.
+const WORK_GROUPS: u64 = 0x000000000005003C;
 
-const LONG: u64 = LONG_WORK + Settings::GROUPS;
+const GROUPS: u64 = WORK_GROUPS + Settings::GROUPS;
 
-// An id whose command has more than one word of its own: the surface table, or a group.
-pub fn is_long(id: u8) -> bool
-    ensures { result ≡ long_id id }
+// An id whose command has four words of its own.
+pub fn is_group(id: u8) -> bool
+    ensures { result ≡ group_id id }
 {
-    in_set(LONG, id)
+    in_set(GROUPS, id)
 }
 
-// A group among the known ids, with its row: those from 40 on and BEGIN.
+// The same of a known id with its row, a faster test: the known ids from 40 on and BEGIN.
 pub fn is_known_group(id: u8, row: u8) -> bool
     requires { (row ≡ row_number id) × (row < row_count) }
     ensures { result ≡ group_id id }

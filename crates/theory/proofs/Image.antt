@@ -8,8 +8,8 @@ use mathlib.Core.List.{List, [], ◌∷◌, ◌++◌}
 use native.Mathlib.Decide.{ℕ_discrete}
 use lib.Dec.{eqb}
 use borrow.Author.Tests.{eqb-true, eq-eqb}
-use lib.ListN.{length, get_or, set, take, length-set}
-use lib.Seq.{sets, sets-eq, take_at, set_out, get_or-set_same, get_or-set_other}
+use lib.ListN.{length, get_or, set, length-set}
+use lib.Seq.{sets, set_out, get_or-set_same, get_or-set_other}
 use Rattle.rules.specs.Form.{read, equal}
 use Rattle.theory.proofs.Bools.{and_left, and_right}
 
@@ -98,10 +98,6 @@ module _ (out : List ℕ) (n : ℕ) (l : List ℕ) (at : ℕ) where
 
   pub copied_on : (i : ℕ) → set (sets out n (read l at i)) (n + i) (get_or l (at + i) 0) ≡ sets out n (read l at (i + 1))
   copied_on i = sym (sets_read_add i 1)
-
--- what is put in front stands there
-pub front : (vs before : List ℕ) (n : ℕ) → length vs ≡ n → n ≤ length before → take n (sets before 0 vs) ≡ vs
-front vs before n e h = ap (take n) (sets-eq vs before 0 (omega (arith, e))) ∙ take_at vs _ n e
 
 read_tail : (x : ℕ) (l : List ℕ) (i n : ℕ) → read (x ∷ l) (suc i) n ≡ read l i n
 read_tail x l i zero = refl

@@ -73,15 +73,6 @@ module _ (w m : ℕ) where
             record { lowest_or_32 = inr q; exactly = (λ z. all_defined e, λ n. q) }
       ]) refl
 
--- there is one lowest
-one-lowest : (w m k : ℕ) → LowestUndefinedAt w m k → k ≡ lowest_undefined w m
-one-lowest w m k l =
-    let f = found 32 w m in
-    let r : ℕ = lowest_undefined w m in
-    let below : k < r → ⊥ = λ b. f.none_below k b l.undefined_here in
-    let above : r < k → ⊥ = λ b. l.none_below r b (f.undefined_here (omega (arith, l.in_word))) in
-    omega (arith, below, above)
-
 -- every bit is defined under the mask of all bits
 ones : (n w : ℕ) → lowest n w (2 ^ n - 1) ≡ n
 unfolding lowest
@@ -150,12 +141,3 @@ module _ (w m : ℕ) (small : m < 2 ^ 24) where
 
   pub first_defined : undefined (header_of w) m ≡ false → AllDefined w (first_word 0xFF m)
   first_defined e k h u = by_place k (λ b. all_defined (header_of w) m e k h (in_header k b u)) (λ a. in_id k a h u)
-
-  -- so that it is asked of the header, or of the word
-  pub first-is : lowest_undefined (header_of w) m ≡ lowest_undefined w (first_word 0xFF m)
-  first-is =
-      (elim (undefined (header_of w) m) as (λ t. undefined (header_of w) m ≡ t → lowest_undefined (header_of w) m ≡ lowest_undefined w (first_word 0xFF m)) [
-        | true ↦ λ e. one-lowest w (first_word 0xFF m) _ (first-lowest _ (undefined-lowest (header_of w) m e))
-        | false ↦ λ e. (lowest_or_none (header_of w) m).exactly.1 (all_defined (header_of w) m e)
-            ∙ sym ((lowest_or_none w (first_word 0xFF m)).exactly.1 (first_defined e))
-      ]) refl

@@ -10,12 +10,12 @@ use lib.ListN.{length}
 use Rattle.rules.specs.declared.Refusal.{Refusal}
 use Rattle.rules.specs.Word.{undefined}
 use Rattle.rules.specs.Table.{Row}
-use Rattle.rules.specs.Values.{refusal, group_faults, faults}
+use Rattle.rules.specs.Values.{refusal, value_faults, faults}
 use Rattle.rules.specs.Walk.{Parsed, parse}
 use Rattle.rules.specs.Answer.{refused_answer, tells_bit}
 use Rattle.rules.specs.Pci.{values, parse_pairs}
 use Rattle.theory.proofs.Bools.{not_both, neither}
-use Rattle.theory.proofs.Refusals.{not_of_list, other_than_six, OfFaults, of_group, of_faults, OfRefusals, OfParsed, of_parse, of_pairs}
+use Rattle.theory.proofs.Refusals.{not_of_list, other_than_six, OfFaults, of_values, of_faults, OfRefusals, OfParsed, of_parse, of_pairs}
 
 -- a refusal has a number of its own, its word is at most m, and its bit is by its number
 pub record Proper (m : ℕ) (f : Refusal) : Type 0 where
@@ -39,11 +39,11 @@ other_proper m n w b h =
 pub faults_proper : (r : Row) (h : ℕ) (own : List ℕ) → OfFaults (Proper (3 + length own)) (faults r h own)
 unfolding undefined
 faults_proper r h own =
-    of_faults (Proper (3 + length own)) (length own) (other_proper (3 + length own)) r h own (omega arith)
+    of_faults (Proper (3 + length own)) (λ n w b near. other_proper (3 + length own) n w b (omega arith)) r h own
     (λ k m u e. record { number = refl; near = omega arith; bit = e })
 
-pub values_proper : (id h : ℕ) (own : List ℕ) → OfFaults (Proper 3) (group_faults id h own)
-values_proper = of_group (Proper 3) 0 (other_proper 3)
+pub values_proper : (id h : ℕ) (own : List ℕ) → OfFaults (Proper 3) (value_faults id h own)
+values_proper = of_values (Proper 3) (other_proper 3)
 
 -- of a list and of pairs
 

@@ -9,14 +9,14 @@ use mathlib.Core.List.{List, [], ◌∷◌, ◌++◌}
 use mathlib.Core.Option.{Option, none, some}
 use lib.Dec.{eqb, leb, ltb}
 use borrow.Author.Tests.{leb-true, ltb-false, eqb-true}
-use lib.ListN.{length, get_or, take, drop, length-take, length-drop}
+use lib.ListN.{length, get_or, take, length-take}
 use lib.Seq.{get_or-take}
 use Rattle.rules.specs.declared.Refusal.{Refusal}
 use Rattle.rules.specs.Word.{id_of, header_of, lowest_undefined, undefined, LowestUndefinedAt}
 use Rattle.rules.specs.Table.{Row, row_of}
 use Rattle.rules.specs.Command.{Command, more_masks, own_size, rest_size, size_of, command_size}
 use Rattle.rules.specs.Place.{own_masks, word_mask}
-use Rattle.rules.specs.Values.{refusal, undefined_bit, shift, Fault, first_fault, fault, undefined_faults, load_faults, primitive_faults, clip_faults, raster_faults, group_faults, later_faults, entry_clashes, surface_faults, value_faults, faults}
+use Rattle.rules.specs.Values.{refusal, undefined_bit, shift, Fault, first_fault, undefined_faults, value_faults, load_faults, primitive_faults, clip_faults, raster_faults, faults}
 use Rattle.rules.specs.Decode.{Decoded, bad, good, decode_known, decode_row, decode}
 use Rattle.rules.specs.Walk.{State, start, order_faults, next, Step, stop, took, step_decoded, step, Parsed, refused, accepted, walk, sized, parse}
 use Rattle.rules.specs.Pci.{address, values, Inside, begun, further, ended, misplaced, outside, unless, parse_pairs}
@@ -75,8 +75,7 @@ abbrev OfStep : (Refusal → Type 0) → Step → Type 0
 OfStep P (stop f) = P f
 OfStep P (took c t) = Unit {0}
 
--- at most so many words behind the fourth
-module _ (P : Refusal → Type 0) (far : ℕ) (others : (n w : ℕ) → other_than_six n ≡ true → w ≤ 3 + far → P (refusal n w)) where
+module _ (P : Refusal → Type 0) (others : (n w : ℕ) → other_than_six n ≡ true → w ≤ 3 → P (refusal n w)) where
   of_append : (fs gs : List Fault) → OfFaults P fs → OfFaults P gs → OfFaults P (fs ++ gs)
   of_append [] gs p q = q
   of_append (f ∷ fs) gs p q = (p.0, of_append fs gs p.1 q)
@@ -98,47 +97,21 @@ module _ (P : Refusal → Type 0) (far : ℕ) (others : (n w : ℕ) → other_th
       let near = and_right (other_than_six f.why.number) _ v in
       let b : 32 ≡ f.why.bit = sym (eqb-true _ _ (and_right (leb f.why.word 3) _ near)) in (
         λ e. subst (λ (x : ℕ). P (record { number = f.why.number; word = f.why.word; bit = x })) b
-            (others f.why.number f.why.word (and_left (other_than_six f.why.number) _ v) (omega (arith, leb-true f.why.word 3 (and_left (leb f.why.word 3) (eqb f.why.bit 32) near)))),
+            (others f.why.number f.why.word (and_left (other_than_six f.why.number) _ v) (leb-true _ _ (and_left (leb f.why.word 3) _ near))),
         of_tested fs (and_right (value_fault f) _ t),
       )
 
-  pub of_group : (id h : ℕ) (own : List ℕ) → OfFaults P (group_faults id h own)
-  unfolding group_faults
-  of_group id h own =
-      of_tested (group_faults id h own) (value_test (eqb id 0x40) (eqb id 0x48) (eqb id 0x84) (eqb id 0x88) h (get_or own 0 0) (get_or own 1 0) (get_or own 2 0))
-
-  -- those of a surface table stand within its words
-  of_later : (i : ℕ) (ws : List ℕ) → i + length ws ≤ 6 + far → OfFaults P (later_faults i ws)
-  of_later i [] h = tt
-  of_later i (w ∷ []) h = tt
-  of_later i (w ∷ a ∷ []) h = tt
-  of_later i (w ∷ a ∷ b ∷ ws) h = (λ e. others 7 i refl (omega arith), of_later (i + 3) ws (omega arith))
-
-  of_clashes : (i : ℕ) (ws : List ℕ) → i + length ws ≤ 6 + far → OfFaults P (entry_clashes i ws)
-  of_clashes i [] h = tt
-  of_clashes i (w ∷ []) h = tt
-  of_clashes i (w ∷ a ∷ []) h = tt
-  of_clashes i (w ∷ a ∷ b ∷ ws) h = (λ e. others 26 i refl (omega arith), (λ e. others 27 i refl (omega arith), of_clashes (i + 3) ws (omega arith)))
-
-  of_surface : (h : ℕ) (own : List ℕ) → length own ≤ far → OfFaults P (surface_faults h own)
-  of_surface h own near = (
-    λ e. others 7 0 refl (omega arith),
-    of_append (later_faults 3 (drop 2 own)) (entry_clashes 0 (h ∷ own)) (of_later 3 (drop 2 own) (omega (arith, length-drop 2 own))) (of_clashes 0 (h ∷ own) (omega arith)),
-  )
-
-  of_values : (id h : ℕ) (own : List ℕ) → length own ≤ far → OfFaults P (value_faults id h own)
+  pub of_values : (id h : ℕ) (own : List ℕ) → OfFaults P (value_faults id h own)
   unfolding value_faults
-  of_values id h own near = elim (eqb id 0x34) as (λ t. OfFaults P (cond t (surface_faults h own) (group_faults id h own))) [
-    | true ↦ of_surface h own near
-    | false ↦ of_group id h own
-  ]
+  of_values id h own =
+      of_tested (value_faults id h own) (value_test (eqb id 0x40) (eqb id 0x48) (eqb id 0x84) (eqb id 0x88) h (get_or own 0 0) (get_or own 1 0) (get_or own 2 0))
 
-  pub of_faults : (r : Row) (h : ℕ) (own : List ℕ) → length own ≤ far → OfUndefined P (r.mask ∷ more_masks r h) (h ∷ own) → OfFaults P (faults r h own)
+  pub of_faults : (r : Row) (h : ℕ) (own : List ℕ) → OfUndefined P (r.mask ∷ more_masks r h) (h ∷ own) → OfFaults P (faults r h own)
   unfolding faults
-  of_faults r h own near six =
+  of_faults r h own six =
       of_append (undefined_faults 0 (r.mask ∷ more_masks r h) (h ∷ own)) (value_faults r.id h own)
       (of_undefined 0 (r.mask ∷ more_masks r h) (h ∷ own) (λ k a b e. rw (zero-add k) (six k a b e)))
-      (of_values r.id h own near)
+      (of_values r.id h own)
 
   -- ---- one command
 
@@ -156,29 +129,29 @@ module _ (P : Refusal → Type 0) (far : ℕ) (others : (n w : ℕ) → other_th
   of_cond true d e p q = p
   of_cond false d e p q = q
 
-  first-word : (n : ℕ) → other_than_six n ≡ true → P (refusal n 0)
-  first-word n b = others n 0 b (omega arith)
+  first_word : (n : ℕ) → other_than_six n ≡ true → P (refusal n 0)
+  first_word n b = others n 0 b (omega arith)
 
-  of_row_lem : (r : Row) (h : ℕ) (ws : List ℕ) → length ws ≤ far → OfUndefined P (r.mask ∷ more_masks r h) (h ∷ take (own_size r h) ws) → OfDecoded P (decode_row r h ws)
+  of_row_lem : (r : Row) (h : ℕ) (ws : List ℕ) → OfUndefined P (r.mask ∷ more_masks r h) (h ∷ take (own_size r h) ws) → OfDecoded P (decode_row r h ws)
   unfolding decode_row
-  of_row_lem r h ws near six =
+  of_row_lem r h ws six =
       let own : ℕ = own_size r h in
       let all : ℕ = rest_size r h ws in
       let c : Command = record { row = r; header = h; rest = take all ws } in
       let whole : Decoded = cond (ltb (length ws) all) (bad (refusal 9 0)) (good c) in
-      of_cond (ltb (length ws) own) (bad (refusal 5 0)) (first_fault bad (faults r h (take own ws)) whole) (first-word 5 refl)
-      (of_first (OfDecoded P) bad (λ f p. p) (faults r h (take own ws)) whole (of_faults r h (take own ws) (omega (arith, length-take own ws)) six)
-      (of_cond (ltb (length ws) all) (bad (refusal 9 0)) (good c) (first-word 9 refl) tt))
+      of_cond (ltb (length ws) own) (bad (refusal 5 0)) (first_fault bad (faults r h (take own ws)) whole) (first_word 5 refl)
+      (of_first (OfDecoded P) bad (λ f p. p) (faults r h (take own ws)) whole (of_faults r h (take own ws) six)
+      (of_cond (ltb (length ws) all) (bad (refusal 9 0)) (good c) (first_word 9 refl) tt))
 
   of_unknown : (b : Bool) → P (refusal (cond b 4 3) 0)
-  of_unknown true = first-word 4 refl
-  of_unknown false = first-word 3 refl
+  of_unknown true = first_word 4 refl
+  of_unknown false = first_word 3 refl
 
-  module _ (w : ℕ) (ws : List ℕ) (near : length ws ≤ far)
+  module _ (w : ℕ) (ws : List ℕ)
       (six : (r : Row) → row_of (id_of w) ≡ some r → OfUndefined P (r.mask ∷ more_masks r (header_of w)) (header_of w ∷ take (own_size r (header_of w)) ws)) where
     of_known : (x : Option Row) → row_of (id_of w) ≡ x → OfDecoded P (decode_known w ws x)
     of_known none e = of_unknown (eqb (id_of w) 3 || eqb (id_of w) 4)
-    of_known (some r) e = of_row_lem r (header_of w) ws near (six r e)
+    of_known (some r) e = of_row_lem r (header_of w) ws (six r e)
 
     of_decoded : (s : State) (d : Decoded) → OfDecoded P d → OfStep P (step_decoded s d)
     unfolding order_faults all_value value_fault
@@ -229,7 +202,7 @@ module _ (P : Refusal → Type 0) (l : List ℕ) (of : OfRefusals P l) where
   of_refused : (f : Refusal) → length l ≤ 4096 → RefusedAt l f → P f
   of_refused f few a =
       subst P a.is
-      (of_step (λ g. P (shift a.at g)) (length a.behind) (λ n w b h. of.others n (a.at + w) b (omega (arith, a.ends))) a.word a.behind (omega arith)
+      (of_step (λ g. P (shift a.at g)) (λ n w b h. of.others n (a.at + w) b (omega (arith, a.ends))) a.word a.behind
       (λ r found k m w e. of.six (a.at + k) _ (omega (arith, a.ends, length-take (own_size r (header_of a.word)) a.behind)) (lowest_at l f a r found k (omega arith) e))
       a.state a.why a.stops)
 

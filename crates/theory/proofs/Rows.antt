@@ -9,7 +9,7 @@ use mathlib.Core.Option.{Option, some}
 use lib.Dec.{eqb, leb, ltb}
 use borrow.Author.Tests.{eqb-true, leb-true, ltb-true, le-leb, lt-ltb, not-true}
 use Rattle.rules.specs.Table.{Kind, setting, plain, keeps, begins, Row, table, find, row_of, is_setting, is_base, size, only_settings, settings}
-use Rattle.rules.specs.Command.{more_masks, payload}
+use Rattle.rules.specs.Command.{payload}
 use Rattle.theory.proofs.Bools.{and_left, and_right, and-true, or_cases, or_left, or_right, implied}
 
 abbrev pub every_row : (Row → Bool) → List Row → Bool
@@ -49,36 +49,25 @@ pub record Setting (r : Row) : Type 0 where
   pub found : row_of r.id ≡ some r
   pub kind : r.kind ≡ setting
 
--- a setting fits in the image, has no payload, and is no surface base and no surface table
-setting_test : Row → Bool
-setting_test r = leb (r.id + size r) 256 && (not (eqb r.id 0x40) && (not (is_base r.id) && not (eqb r.id 0x34)))
-
+-- a setting fits in the image, has no payload and is no surface base
 setting_ok : Row → Bool
-setting_ok r = not (is_setting r.kind) || setting_test r
+setting_ok r = not (is_setting r.kind) || (leb (r.id + size r) 256 && (not (eqb r.id 0x40) && not (is_base r.id)))
 
-ok : (r : Row) → Setting r → setting_test r ≡ true
-unfolding setting_ok setting_test row_of table is_base
+ok : (r : Row) → Setting r → (leb (r.id + size r) 256 && (not (eqb r.id 0x40) && not (is_base r.id))) ≡ true
+unfolding setting_ok row_of table is_base
 ok r s = implied (is_setting r.kind) _ (found_passes setting_ok table r.id r refl s.found) (ap is_setting s.kind)
 
 pub setting-fits : (r : Row) → Setting r → r.id + size r ≤ 256
-unfolding setting_test
 setting-fits r s = leb-true _ _ (and_left (leb (r.id + size r) 256) _ (ok r s))
 
 pub setting-payload : (r : Row) → Setting r → (h : ℕ) (own : List ℕ) → payload r.id h own ≡ 0
-unfolding payload setting_test
+unfolding payload
 setting-payload r s h own =
     let e : eqb r.id 0x40 ≡ false = not-true _ (and_left (not (eqb r.id 0x40)) _ (and_right (leb (r.id + size r) 256) _ (ok r s))) in
     rw e
 
 pub setting_base : (r : Row) → Setting r → is_base r.id ≡ false
-unfolding setting_test
-setting_base r s = not-true _ (and_left (not (is_base r.id)) _ (and_right (not (eqb r.id 0x40)) _ (and_right (leb (r.id + size r) 256) _ (ok r s))))
-
-pub setting-more : (r : Row) → Setting r → (h : ℕ) → more_masks r h ≡ r.more
-unfolding more_masks setting_test
-setting-more r s h =
-    let t = and_right (not (eqb r.id 0x40)) _ (and_right (leb (r.id + size r) 256) _ (ok r s)) in
-    rw (not-true (eqb r.id 0x34) (and_right (not (is_base r.id)) _ t))
+setting_base r s = not-true _ (and_right (not (eqb r.id 0x40)) _ (and_right (leb (r.id + size r) 256) _ (ok r s)))
 
 -- two settings are one, or lie apart
 apart : Row → Row → Bool
@@ -162,13 +151,9 @@ abbrev pub AllSettings : List Row → Type 0
 AllSettings [] = Unit {0}
 AllSettings (r ∷ rs) = Setting r × AllSettings rs
 
-is : {r : Row} → row_of r.id ≡ some r → r.kind ≡ setting → Setting r
-is p q = record { found = p; kind = q }
-
 pub settings-all : AllSettings settings
 unfolding settings table row_of
-settings-all =
-    (is refl refl, (is refl refl, (is refl refl, (is refl refl, (is refl refl, (is refl refl, (is refl refl, (is refl refl, (is refl refl, tt)))))))))
+settings-all = search tt
 
 -- each setting stands once in the list of settings
 unfoldable pub size_at : ℕ → List Row → ℕ

@@ -17,7 +17,7 @@ use Rattle.rules.specs.declared.Refusal.{Refusal}
 use Rattle.rules.specs.Values.{refusal, Fault, first_fault, faults}
 use Rattle.rules.specs.Decode.{Decoded, bad, good, decode_row}
 use Rattle.rules.specs.Valid.{NoFault, Valid}
-use Rattle.theory.proofs.Rows.{Setting, setting-more, setting-payload}
+use Rattle.theory.proofs.Rows.{Setting, setting-payload}
 
 cond-else : {A : Type 0} (b : Bool) (x d y : A) → (x ≡ y → ⊥) → cond b x d ≡ y → (b ≡ false) × (d ≡ y)
 cond-else true x d y n e = absurd (n e)
@@ -126,7 +126,7 @@ module _ (c : Command) (tail : List ℕ) (v : Valid c) where
 
 -- a setting has just its words
 pub setting-length : (c : Command) → Setting c.row → Valid c → length c.rest ≡ length c.row.more
-setting-length c s v = omega (arith, v.size, ap length (setting-more c.row s c.header), setting-payload c.row s c.header (take (own_size c.row c.header) c.rest))
+setting-length c s v = omega (arith, v.size, setting-payload c.row s c.header (take (own_size c.row c.header) c.rest))
 
 pub valid-setting : (c : Command) → Valid c → c.row.kind ≡ setting → Setting c.row
 valid-setting c v k = record { found = v.found; kind = k }

@@ -1,7 +1,7 @@
 // The rules on the values of a command's words, by command: illegal values and clashes.
 ghost use Rattle.std.specs.Prelude.{◌≡◌, cond};
 ghost use Rattle.rules.specs.Values.{page_limit};
-ghost use Rattle.values.specs.First.{broken};
+ghost use Rattle.values.specs.Broken.{load_broken, primitive_broken, clip_broken, raster_broken};
 
 use table::Group;
 
@@ -24,13 +24,13 @@ fn clash(found: bool, number: u32, next: u32) -> u32
 }
 
 pub fn load_faults(g: Group) -> Faults
-    ensures { result ≡ broken 0x40 g }
+    ensures { result ≡ load_broken g }
 {
     let code = (g.header >> 20) % 8;
     let floats = (g.header >> 23) % 2;
     let planes = (g.header >> 10) % 512 + g.header % 512;
     let range = clash((code == 5) & (8 < planes), 19, 0);
-    let bare = (code == 0) | (code == 5);
+    let bare = (code != 1) & (code != 2); // 0 or 5: other codes are illegal, in the first word
     Faults {
         first: (2 < code) & (code != 5),
         second: (code != 2) & (g.second != 0),
@@ -41,7 +41,7 @@ pub fn load_faults(g: Group) -> Faults
 }
 
 pub fn primitive_faults(g: Group) -> Faults
-    ensures { result ≡ broken 0x48 g }
+    ensures { result ≡ primitive_broken g }
 {
     Faults {
         first: g.header != 0,
@@ -63,7 +63,7 @@ fn page_limit(bank: u32) -> u32
 }
 
 pub fn clip_faults(g: Group) -> Faults
-    ensures { result ≡ broken 0x84 g }
+    ensures { result ≡ clip_broken g }
 {
     let bank = (g.second >> 28) % 4;
     let most = (g.third >> 28) % 16;
@@ -79,7 +79,7 @@ pub fn clip_faults(g: Group) -> Faults
 }
 
 pub fn raster_faults(g: Group) -> Faults
-    ensures { result ≡ broken 0x88 g }
+    ensures { result ≡ raster_broken g }
 {
     let bits = ((g.header >> 22) % 2 == 0) & ((g.header >> 14) % 2 == 1);
     Faults {

@@ -18,12 +18,12 @@ use Rattle.lines.proofs.Lengths.{counts_length, refused-length}
 use Rattle.rules.specs.Place.{start_of}
 use Rattle.verdict.specs.Verdict.{image_line, address_line, place_lines, bit_line, why_line, refusal_text, verdict_text}
 
--- a name has at most 21 bytes with its id, and the row of a refusal 230 with its number
+-- a name has at most 21 bytes with its id, and the row of a refusal 160 with its number
 pub names_narrow : narrow 21 commands ≡ true
 unfolding commands line_of
 names_narrow = refl
 
-refusals_narrow : narrow 230 refusals ≡ true
+refusals_narrow : narrow 160 refusals ≡ true
 unfolding refusals line_of
 refusals_narrow = refl
 
@@ -55,13 +55,13 @@ module _ (number p bit : ℕ) where
       length-cond (eqb bit 32) [] (formatted [] (ascii "bit %d\n") (bit ∷ [])) 40
       (omega arith) (omega (arith, formatted-length [] 0 refl (ascii "bit %d\n") (bit ∷ [])))
 
-  row-bound : length (refusal_row number) ≤ 230
-  row-bound = row-length 230 (cond (ltb number 10) 0x20 (digit (number / 10 % 10))) (digit (number % 10)) true refusals refusals_narrow
+  row-bound : length (refusal_row number) ≤ 160
+  row-bound = row-length 160 (cond (ltb number 10) 0x20 (digit (number / 10 % 10))) (digit (number % 10)) true refusals refusals_narrow
 
-  pub why-length : length (why_line number) ≤ 234
+  pub why-length : length (why_line number) ≤ 164
   why-length = omega (arith, length-append (refusal_row number) (ascii "\n"), row-bound)
 
-pub refusal-length : (a : Answer) (ws pairs : List ℕ) (bytes : ℕ) → length (refusal_text a ws pairs bytes) ≤ 610
+pub refusal-length : (a : Answer) (ws pairs : List ℕ) (bytes : ℕ) → length (refusal_text a ws pairs bytes) ≤ 540
 unfolding refusal_text
 refusal-length a ws pairs bytes =
     let n : ℕ = a.verdict in
@@ -69,8 +69,8 @@ refusal-length a ws pairs bytes =
     simp length-append
     (omega (arith, refused-length n p, image-length n p 0 bytes, address-length n p 0 pairs, place-length n p 0 ws, bit_length n p a.bit, row-bound n p 0))
 
-pub verdict-length : (a : Answer) (ws pairs : List ℕ) (bytes : ℕ) → length (verdict_text a ws pairs bytes) ≤ 610
+pub verdict-length : (a : Answer) (ws pairs : List ℕ) (bytes : ℕ) → length (verdict_text a ws pairs bytes) ≤ 540
 unfolding verdict_text
 verdict-length a ws pairs bytes =
-    length-cond (eqb a.verdict 0) (counts_line a.commands a.records) (refusal_text a ws pairs bytes) 610
+    length-cond (eqb a.verdict 0) (counts_line a.commands a.records) (refusal_text a ws pairs bytes) 540
     (omega (arith, counts_length a.commands a.records)) (refusal-length a ws pairs bytes)

@@ -1,7 +1,6 @@
 // The text of a verdict in a lent buffer. Each part goes from position `at` on, and the answer is the position behind it.
 ghost use Rattle.std.specs.Prelude.{◌≡◌, ◌<◌, ◌≤◌, length};
 ghost use Rattle.text.specs.Puts.{Puts, Bounded};
-ghost use Rattle.rules.specs.Lent.{given, left};
 ghost use Rattle.rules.specs.Place.{start_of};
 ghost use Rattle.verdict.specs.Verdict.{image_line, address_line, place_lines, bit_line, why_line, refusal_text, verdict_text};
 
@@ -12,7 +11,7 @@ use rules::{Answer, NO_BIT};
 // The first word of the command that word p stands in.
 fn start_of(list: &[u32], p: usize) -> usize
     requires { p < length list.now }
-    ensures { (result ≤ p) × (result ≡ start_of (given list) p) }
+    ensures { (result ≤ p) × (result ≡ start_of list.now p) }
 {
     let mut at = 0;
     while at < p {
@@ -29,7 +28,7 @@ fn start_of(list: &[u32], p: usize) -> usize
 
 fn put_image(text: &mut [u8], at: usize, number: usize, bytes: usize) -> usize
     requires { Bounded at (image_line number bytes) }
-    ensures { Puts (image_line number bytes) (given text) at (left text) result }
+    ensures { Puts (image_line number bytes) text.old at text.new result }
 {
     if number != 2 {
         return at;
@@ -39,7 +38,7 @@ fn put_image(text: &mut [u8], at: usize, number: usize, bytes: usize) -> usize
 
 fn put_address(text: &mut [u8], at: usize, pairs: &[u32], p: usize) -> usize
     requires { Bounded at (address_line pairs.now p) }
-    ensures { Puts (address_line (given pairs) p) (given text) at (left text) result }
+    ensures { Puts (address_line pairs.now p) text.old at text.new result }
 {
     if pairs.len() / 2 <= p {
         return at;
@@ -50,7 +49,7 @@ fn put_address(text: &mut [u8], at: usize, pairs: &[u32], p: usize) -> usize
 
 fn put_place(text: &mut [u8], at: usize, list: &[u32], p: usize) -> usize
     requires { Bounded at (place_lines list.now p) }
-    ensures { Puts (place_lines (given list) p) (given text) at (left text) result }
+    ensures { Puts (place_lines list.now p) text.old at text.new result }
 {
     if list.len() <= p {
         return at;
@@ -70,7 +69,7 @@ fn put_place(text: &mut [u8], at: usize, list: &[u32], p: usize) -> usize
 
 fn put_bit(text: &mut [u8], at: usize, bit: u32) -> usize
     requires { Bounded at (bit_line bit) }
-    ensures { Puts (bit_line bit) (given text) at (left text) result }
+    ensures { Puts (bit_line bit) text.old at text.new result }
 {
     if bit == NO_BIT {
         return at;
@@ -80,7 +79,7 @@ fn put_bit(text: &mut [u8], at: usize, bit: u32) -> usize
 
 fn put_why(text: &mut [u8], at: usize, number: usize) -> usize
     requires { Bounded at (why_line number) }
-    ensures { Puts (why_line number) (given text) at (left text) result }
+    ensures { Puts (why_line number) text.old at text.new result }
 {
     let at = text::put_all(text, at, b"why");
     let at = names::put_refusal(text, at, number);
@@ -90,7 +89,7 @@ fn put_why(text: &mut [u8], at: usize, number: usize) -> usize
 // ---- the verdict
 
 fn put_refusal(text: &mut [u8], a: Answer, list: &[u32], pairs: &[u32], bytes: usize) -> usize
-    ensures { Puts (refusal_text a (given list) (given pairs) bytes) (given text) 0 (left text) result }
+    ensures { Puts (refusal_text a list.now pairs.now bytes) text.old 0 text.new result }
 {
     let number = words::wide(a.verdict);
     let at = lines::put_refused(text, number, a.position);
@@ -103,7 +102,7 @@ fn put_refusal(text: &mut [u8], a: Answer, list: &[u32], pairs: &[u32], bytes: u
 
 // The text of an answer on a list, or on pairs and the list that they carry, with an image of some bytes.
 pub fn put_verdict(text: &mut [u8], a: Answer, list: &[u32], pairs: &[u32], bytes: usize) -> usize
-    ensures { Puts (verdict_text a (given list) (given pairs) bytes) (given text) 0 (left text) result }
+    ensures { Puts (verdict_text a list.now pairs.now bytes) text.old 0 text.new result }
 {
     if a.verdict != 0 {
         return put_refusal(text, a, list, pairs, bytes);

@@ -1,20 +1,19 @@
 // Words of lists and of lent buffers.
 ghost use Rattle.std.specs.Prelude.{◌≡◌, [], ◌∷◌, ◌+◌, ◌<◌, ◌≤◌, length, get_or, set};
 ghost use Rattle.std.proofs.lemmas.List.Edits.{sets};
-ghost use Rattle.rules.specs.Lent.{given, left};
 ghost use Rattle.rules.specs.Word.{id_of, header_of};
 
 // A word of a list. Whatever stands above gets the words of a list here.
 pub fn fetch(list: &[u32], at: usize) -> u32
     requires { at < length list.now }
-    ensures { result ≡ get_or (given list) at 0 }
+    ensures { result ≡ get_or list.now at 0 }
 {
     list[at]
 }
 
 // The same, zero past the end.
 pub fn fetch_or_zero(list: &[u32], at: usize) -> u32
-    ensures { result ≡ get_or (given list) at 0 }
+    ensures { result ≡ get_or list.now at 0 }
 {
     if at < list.len() {
         return fetch(list, at);
@@ -43,7 +42,7 @@ pub fn wide(word: u32) -> usize
 
 // A word past the end is not written.
 pub fn put(out: &mut [u32], n: usize, w: u32)
-    ensures { left out ≡ set (given out) n w }
+    ensures { out.new ≡ set out.old n w }
 {
     if n < out.len() {
         out[n] = w;
@@ -53,7 +52,7 @@ pub fn put(out: &mut [u32], n: usize, w: u32)
 // Four words from a position on.
 pub fn put4(out: &mut [u32], at: usize, a: u32, b: u32, c: u32, d: u32)
     requires { at + 4 ≤ length out.old }
-    ensures { left out ≡ sets (given out) at (a ∷ b ∷ c ∷ d ∷ []) }
+    ensures { out.new ≡ sets out.old at (a ∷ b ∷ c ∷ d ∷ []) }
 {
     out[at] = a;
     out[at + 1] = b;

@@ -2,7 +2,6 @@
 
 use crate::prng::Prng;
 use crate::rules::{self, Kind, Row};
-use std::sync::LazyLock;
 
 pub const BEGINS: [u32; 4] = [0x08, 0x0C, 0x10, 0x14];
 pub const SURFACE_BASES: [u32; 3] = [0x21, 0x23, 0x25];
@@ -31,14 +30,8 @@ pub fn clip(bank: u32, maximum: u32, minimum: u32) -> Vec<u32> {
     vec![0x84000000, bank << 28, maximum << 28 | minimum << 12, 0]
 }
 
-/// The rows of commands that have no entries; those that have are in `surfaces`.
-static WITHOUT_ENTRIES: LazyLock<Vec<Row>> = LazyLock::new(|| {
-    let rows = rules::paper().table.0.iter();
-    rows.filter(|row| row.entries.is_none()).cloned().collect()
-});
-
 pub fn table() -> &'static [Row] {
-    &WITHOUT_ENTRIES
+    &rules::paper().table.0
 }
 
 pub fn rows(kind: Kind) -> impl Iterator<Item = &'static Row> {

@@ -4,8 +4,7 @@ use super::commands::{
     bits_of_word, clip, first_word, load_word, rows, table, valid, zeros, BEGINS, GROUPS,
     LEGAL_CODES, SURFACE_BASES,
 };
-use super::{modes, pairs, plain, sessions, surfaces, with_buffers, with_surroundings};
-use super::{Case, Image, Purpose};
+use super::{modes, pairs, plain, sessions, with_buffers, with_surroundings, Case, Image, Purpose};
 use crate::paper;
 use crate::prng::{self, Prng};
 use crate::rules::{self, Kind, Row, IMAGE_WORDS, MAX_LIST_WORDS};
@@ -89,22 +88,6 @@ fn sets() -> Vec<Set> {
         set("pairs: bits and limits of the lists", pairs::bits_and_limits(), Every),
         set("pairs: sizes", pairs::sizes(), Every),
         set("pairs: other sizes", pairs::other_sizes(), Nothing),
-        set("table: numbers of entries", surfaces::total_entries(), Every),
-        set("table: every bit", surfaces::every_bit(), Every),
-        set("table: undefined bits", surfaces::undefined_bits(), Every),
-        set("table: illegal entries", surfaces::illegal_entries(), Every),
-        set("table: two faults", surfaces::two_faults(), Every),
-        set("table: modes", surfaces::modes(), Every),
-        set("table: addresses", surfaces::addresses(), Every),
-        set("table: among commands", surfaces::among_commands(), Every),
-        set("table: long", surfaces::long_tables(), Nothing),
-        set("table: sizes", surfaces::sizes(), Every),
-        set("table: other sizes", surfaces::other_sizes(), Nothing),
-        set("pairs of tables: numbers of entries", surfaces::pairs_of_totals(), Every),
-        set("pairs of tables: lists", surfaces::pairs_of_lists(), Every),
-        set("pairs of tables: other addresses", surfaces::other_addresses(), Every),
-        set("pairs of tables: misread addresses", surfaces::misread_addresses(), Every),
-        set("pairs of tables: cuts", surfaces::cuts(), Every),
     ]
 }
 
@@ -130,7 +113,7 @@ pub fn fixed_cases() -> Vec<Case> {
 fn stored_whole() -> Vec<Case> {
     let lists = [equal_settings(), defined_part(), image_lengths(), buffer_lengths()];
     let pairs = [pairs::image_lengths(), pairs::buffer_lengths()];
-    [lists.concat(), pairs.concat(), form_lengths(), surfaces::with_images()].concat()
+    [lists.concat(), pairs.concat(), form_lengths()].concat()
 }
 
 /// A sample of the sets that fits a small file. Sets that are stored whole get a zero image and

@@ -5,7 +5,7 @@ use super::commands::{first_word, table, valid, BEGINS, SURFACE_BASES};
 use super::fixed;
 use super::random::{any_length, random_case};
 use super::sessions::{CUT_SHORT, REFUSED, UNDEFINED};
-use super::{plain, surfaces, with_surroundings, Case, CaseKind, Image, Purpose};
+use super::{plain, with_surroundings, Case, CaseKind, Image, Purpose};
 use crate::prng::{self, Prng};
 use crate::rules::{self, IMAGE_WORDS, MAX_LIST_WORDS};
 
@@ -77,7 +77,6 @@ pub fn stored_in_modes() -> [Vec<Case>; 2] {
         by_turns("mode: undefined bits", fixed::undefined_among_defined()),
         by_turns("mode: undefined bits", fixed::undefined_in_two_words()),
         lengths(&LENGTHS[..3], &MODES),
-        surface_tables(),
     ];
     let long =
         [lengths(&LENGTHS[3..6], &MODES), refused_far_behind(), room_of_long_lists(), longest()];
@@ -216,32 +215,6 @@ fn forms() -> Vec<Case> {
             }
         }
     }
-    cases
-}
-
-/// Surface tables among settings and work, good and refused, swapped and not, in modes over 3 too; and bits
-/// of their words by turns.
-fn surface_tables() -> Vec<Case> {
-    const CLASS: &str = "mode: surface tables";
-    let among = |table: &Vec<u32>| [&[0x31000005, 0x05000009, FLUSH], &table[..]].concat();
-    let refused = surfaces::refused().into_iter().enumerate().map(|(k, table)| {
-        let behind = if k == 0 { &[][..] } else { &[UNDEFINED] };
-        [&among(&table)[..], behind].concat()
-    });
-    let good = surfaces::accepted().map(|table| [&among(&table)[..], &[TIMER | 7]].concat());
-    let mut cases = Vec::new();
-    for (seed, list) in (1..).zip(refused.chain(good)) {
-        for mode in MODES.into_iter().chain([4, 0x80000003]) {
-            let image = Image::Seeded { seed, len: IMAGE_WORDS };
-            cases.push(Case { image, ..in_mode(CLASS, mode, &list) });
-        }
-        cases.push(unswapped(CLASS, mode_of(seed as usize), &list));
-    }
-    cases.extend(by_turns(CLASS, surfaces::undefined_bits().into_iter().step_by(3).collect()));
-    let clashes = [surfaces::modes(), surfaces::addresses()].concat();
-    cases.extend(by_turns(CLASS, clashes.into_iter().step_by(8).collect()));
-    // A table as it is and with all bytes reversed, else work of one word.
-    cases.extend(MODES.map(|mode| unswapped(CLASS, mode, &[0x34000034, 0, 0])));
     cases
 }
 

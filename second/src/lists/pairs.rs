@@ -16,13 +16,13 @@ pub fn pairs(list: &[u32]) -> Vec<u32> {
     pairs_at(list, &rules::paper().from_pci.addresses)
 }
 
-pub fn pairs_at(list: &[u32], addresses: &Addresses) -> Vec<u32> {
+fn pairs_at(list: &[u32], addresses: &Addresses) -> Vec<u32> {
     let rules = &rules::paper().from_pci;
     let mut pairs = Vec::new();
     let mut rest = list;
     while !rest.is_empty() {
         let (words, behind) = rest.split_at(rest.len().min(rules.command_words(rest)));
-        let pair = |k: usize| [rules.address(addresses, words, k), words[k]];
+        let pair = |k: usize| [addresses.of(rules.id, words, k), words[k]];
         pairs.extend((0..words.len()).flat_map(pair));
         rest = behind;
     }
@@ -34,7 +34,7 @@ fn all_pairs(lists: Vec<Vec<u32>>) -> Vec<Vec<u32>> {
 }
 
 /// Pairs with the address of pair `k` changed.
-pub fn readdressed(pairs: &[u32], k: usize, change: impl Fn(u32) -> u32) -> Vec<u32> {
+fn readdressed(pairs: &[u32], k: usize, change: impl Fn(u32) -> u32) -> Vec<u32> {
     let mut pairs = pairs.to_vec();
     pairs[2 * k] = change(pairs[2 * k]);
     pairs

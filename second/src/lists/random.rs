@@ -1,7 +1,7 @@
 //! Lists made at random, by class.
 
 use super::commands::{self, any_word, command_like_word, first_word, Refused};
-use super::{surfaces, with_buffers, with_surroundings, Case, Image, Purpose};
+use super::{with_buffers, with_surroundings, Case, Image, Purpose};
 use crate::prng::Prng;
 use crate::rules::{self, Flip, Kind, IMAGE_WORDS, MAX_LIST_WORDS};
 
@@ -23,63 +23,28 @@ pub fn random_case(rng: &mut Prng, purpose: Purpose) -> Case {
         10 => ("known ids, random words", known_id_list(rng, words)),
         _ => ("random words", random_words(rng, words)),
     };
-    let list = tables_to_run(rng, list, surfaces::near, purpose);
     with_surroundings(rng, class, list, purpose)
-}
-
-/// Lists with surface tables.
-pub fn random_tables(rng: &mut Prng, purpose: Purpose) -> Case {
-    let words = any_length(rng, purpose);
-    let (class, list) = match rng.below(4) {
-        0 => ("tables", any_list(rng, purpose)),
-        1 => ("tables, after flips", flip_list(rng, words)),
-        2 => ("tables, near a boundary", valid_list(rng, words / 2)),
-        _ => ("tables and a refused command", list_with_refusal(rng, words)),
-    };
-    let table = rng.pick(&[surfaces::valid, surfaces::near] as &[fn(&mut Prng) -> Vec<u32>]);
-    let list = surfaces::among(rng, list, table);
-    with_surroundings(rng, class, list, purpose)
-}
-
-/// A third of the lists with tables; those to be stored have them apart.
-fn tables_to_run(
-    rng: &mut Prng,
-    list: Vec<u32>,
-    broken: fn(&mut Prng) -> Vec<u32>,
-    purpose: Purpose,
-) -> Vec<u32> {
-    if purpose == Purpose::Store || !rng.once_in(3) {
-        return list;
-    }
-    let table = if rng.once_in(3) { broken } else { surfaces::valid };
-    let mut list = surfaces::among(rng, list, table);
-    if rng.once_in(8) {
-        damage(rng, &mut list);
-    }
-    list
 }
 
 /// Lists of which most are accepted.
 pub fn any_list(rng: &mut Prng, purpose: Purpose) -> Vec<u32> {
     let words = any_length(rng, purpose);
-    let list = match rng.below(4) {
+    match rng.below(4) {
         0 => flip_list(rng, words),
         1 => load_list(rng, words),
         _ => valid_list(rng, words),
-    };
-    tables_to_run(rng, list, surfaces::valid, purpose)
+    }
 }
 
 /// Lists of which most are refused.
 pub fn any_refused_list(rng: &mut Prng, purpose: Purpose) -> Vec<u32> {
     let words = any_length(rng, purpose);
-    let list = match rng.below(4) {
+    match rng.below(4) {
         0 => near_list(rng, words),
         1 => damaged_list(rng, words),
         2 => known_id_list(rng, words),
         _ => list_with_refusal(rng, words),
-    };
-    tables_to_run(rng, list, surfaces::near, purpose)
+    }
 }
 
 pub fn any_length(rng: &mut Prng, purpose: Purpose) -> usize {
@@ -133,8 +98,6 @@ fn scene_case(rng: &mut Prng, words: usize, purpose: Purpose) -> Case {
             let base = rng.pick(&commands::SURFACE_BASES);
             push_valid(rng, &mut list, base);
             push_begin(rng, &mut list);
-        } else if purpose == Purpose::Run && rng.once_in(8) {
-            list.extend(surfaces::valid(rng));
         } else if !rng.once_in(4) {
             let id = work_that_may_stand_anywhere(rng);
             push_valid(rng, &mut list, id);
@@ -291,9 +254,6 @@ pub fn long_list(rng: &mut Prng) -> Vec<u32> {
         // Whole commands up to the wanted length, then commands of one word.
         list.clear();
         while list.len() + 40 < words {
-            if rng.once_in(20) {
-                list.extend(surfaces::valid(rng));
-            }
             let id = rng.pick(&[0x00, 0x02, 0x26, 0x30, 0x31, 0x48, 0x84, 0x8C, 0xC4, 0x40, 0x10]);
             push_valid(rng, &mut list, id);
         }

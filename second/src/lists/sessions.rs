@@ -2,7 +2,7 @@
 
 use super::commands::{self, any_word, command_like_word};
 use super::random::{any_list, any_refused_list, long_list};
-use super::{any_buffer_length, any_image, any_seed, surfaces, Case, CaseKind, Image, Purpose};
+use super::{any_buffer_length, any_image, any_seed, Case, CaseKind, Image, Purpose};
 use crate::prng::Prng;
 use crate::rules::{self, IMAGE_WORDS, MAX_LIST_WORDS};
 
@@ -104,7 +104,6 @@ pub fn stored_sessions() -> [Vec<Case>; 2] {
         image_lengths(),
         record_rooms(),
         surface_bases(),
-        surface_tables(),
     ];
     [short.concat(), [long_lists(), most_pairs(), many_settings()].concat()]
 }
@@ -340,37 +339,6 @@ fn surface_bases() -> Vec<Case> {
     let words = vec![TIMER, BASE, FLUSH, TIMER];
     for table in [[0, 2, 2, 2], [0, 3, 2, 2], [1, 1, 2, 1]] {
         cases.push(plain("session: surface bases", words.clone(), table.to_vec()));
-    }
-    cases
-}
-
-/// Lists with surface tables, and refused ones: as the first, in between, as the last; and tables cut by
-/// their pair's length.
-fn surface_tables() -> Vec<Case> {
-    const CLASS: &str = "session: surface tables";
-    let [one, three, five] = surfaces::accepted();
-    let among = [&[TIMER | 1], &three[..], &[TIMER | 2, FLUSH]].concat();
-    let ends_with_base = [&one[..], &[BASE]].concat();
-    let mut cases = vec![
-        laid_case(CLASS, &[&one]),
-        laid_case(CLASS, &[GOOD[0], &three, GOOD[1], &among, &one]),
-        laid_case(CLASS, &[&ends_with_base, &five, &[BASE], &one]),
-    ];
-    for refused in surfaces::refused() {
-        let list = [&[0x31000005, 0x05000009, FLUSH], &refused[..]].concat();
-        cases.push(laid_case(CLASS, &[GOOD[0], &among, &list, GOOD[1]]));
-        cases.push(laid_case(CLASS, &[&list, &three]));
-        cases.push(laid_case(CLASS, &[&five, GOOD[2], GOOD[0], &refused]));
-        // An undefined bit in a command behind it.
-        cases.push(laid_case(CLASS, &[GOOD[1], &[], &[&refused, &[UNDEFINED][..]].concat()]));
-    }
-    for length in 0..=9 {
-        let (words, table) = (three.clone(), vec![0, 0, 0, length, 0, 1]);
-        cases.push(plain(CLASS, words, table));
-    }
-    for room in [0, 3, 4, 7, 8, 11, 12, 16, 20] {
-        let case = laid_case(CLASS, &[&one, &among, &three]);
-        cases.push(Case { records_len: room, ..case });
     }
     cases
 }

@@ -1,9 +1,7 @@
 //! All the changes: of each part of the rules, of orders, of the clashes' numbers, of single page
-//! thresholds, of surface tables, of sessions, of the words got in a mode, of answers and lent words, of the
-//! tool's runs, of books.
+//! thresholds, of sessions, of the words got in a mode, of answers and lent words, of the tool's runs, of books.
 
-use super::{books as other_books, clashes, effects, modes, orders, runs, scenes};
-use super::{surfaces, thresholds};
+use super::{books as other_books, clashes, effects, modes, orders, runs, scenes, thresholds};
 use crate::books;
 use crate::lists::{Case, CaseKind};
 use crate::outcome::{self, Function, Outcome};
@@ -194,7 +192,6 @@ pub fn all() -> Vec<Mutant> {
     all.extend(orders::all());
     all.extend(clashes::all());
     all.extend(thresholds::all());
-    all.extend(surfaces::all());
     all.extend(scenes::all());
     all.extend(modes::all());
     all.extend(effects::all());

@@ -278,7 +278,7 @@ fn listings() -> Vec<Mutant> {
         Mutant::of_listing("listing: lines before a refusal", lines_before_refusal),
         Mutant::of_listing("listing: the bit of a 6", with_bit),
     ];
-    for verdict in [15, 16, 17, 18, 19, 26, 27] {
+    for verdict in 15..=19 {
         let as_8 = move |input: &[u8]| {
             paper.listing(input).replace(&format!("refused {verdict} "), "refused 8 ")
         };

@@ -125,7 +125,7 @@ fn later_refusal(function: Function, case: &Case, outcome: Outcome) -> Outcome {
     let list = function.list_of(case);
     let refused = &list[end_of(&paper.walk(&list).0)..];
     let row = paper.row_of(refused[0] >> 24);
-    let length = row.map_or(1, |row| row.length(refused));
+    let length = row.map_or(1, |row| row.length(&refused[..row.own_words().min(refused.len())]));
     let rest = &refused[length.min(refused.len())..];
     let before_rest = list.len() - rest.len();
     match paper.walk(rest).1 {

@@ -322,7 +322,7 @@ fn texts() -> Vec<Mutant> {
             text.replace("command 00 flush", "command 00")
         }),
     ];
-    for verdict in [15, 16, 17, 18, 19, 26, 27] {
+    for verdict in 15..=19 {
         all.push(Mutant::of_run(format!("run: {verdict} told as 8"), move |_, mut run| {
             run.text = run.text.replace(&format!("refused {verdict} at"), "refused 8 at");
             run

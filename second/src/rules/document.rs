@@ -1,4 +1,4 @@
-//! Document 01, and Tickets 1 to 9 of document 02, as a value: each part under its sentence.
+//! Document 01, and Tickets 1 to 8 of document 02, as a value: each part under its sentence.
 
 use super::books::*;
 use super::language::{Comparison, Field, Mask, Quantity, Set, Test, Value};
@@ -23,11 +23,6 @@ const LOAD: &[u32] = &[0xF7FDFF, 0xFFFFFFFF, 0xFFFFFFFF, 0xFFFFFFFF];
 const CLIP: &[u32] = &[0xFFFFFF, 0x3FFF0FFF, 0xFFFFFFFF, 0xFFFFFFFF];
 const RASTER: &[u32] = &[0xE7FFFF, 0x00FFFFFF, 0x003FFFFF, 0x00FFFFFF];
 const DEPTH: &[u32] = &[0xFFFFFF, 0x00FFFFFF, 0x0FFF0FFF, 0x0FFF0FFF];
-/// Of a surface table's entry (001, 3.5): `D0 [23] [21:16] [15] [14:12] [11:10] [9:0]`, `D1 [26] [25:24]
-/// [23:0]`, `D2 [31:16] [15:0]`.
-const SURFACE: &[u32] = &[0xBFFFFF, 0x07FFFFFF, 0xFFFFFFFF];
-/// Of a later one, where the id stands as well.
-const LATER_SURFACE: [u32; 3] = [0xFFBFFFFF, 0x07FFFFFF, 0xFFFFFFFF];
 const LOD_BIAS: &[u32] = &[0x000000, 0xFFFFFFFF, 0xFFFFFFFF, 0xFFFFFFFF];
 
 parts! {
@@ -45,11 +40,6 @@ parts! {
         pub page_minimum: Field,
         pub page_based: Field,
         pub full_page: Field,
-        pub total_entry: Field,
-        pub surface_mode: Field,
-        pub enable_tiled: Field,
-        pub surface_base: Field,
-        pub surface_end: Field,
         pub begin_word: usize,
         pub form: Form,
         pub addresses: Addresses,
@@ -76,13 +66,6 @@ impl Terms {
             // "header bit 22 (page-based rendering)", "bit 14 (always full page)"
             page_based: Field::bit(0, 22),
             full_page: Field::bit(0, 14),
-            // "D0 [21:16] Total_Entry", "D0 [14:12] MultiSurfaces_Banded_Tiled_Mode", "D1 [26]
-            // Enable_Tiled", "D2 [31:16] Buffer_Base_Address", "D2 [15:0] Buffer_End_Address"
-            total_entry: Field::bits(0, 21, 16),
-            surface_mode: Field::bits(0, 14, 12),
-            enable_tiled: Field::bit(1, 26),
-            surface_base: Field::bits(2, 31, 16),
-            surface_end: Field::bits(2, 15, 0),
             // "Any BEGIN puts its header in word 08."
             begin_word: 0x08,
             form: form(),
@@ -108,8 +91,6 @@ impl Rules {
             each_command: each_command(),
             room_for_records: room(),
             room_for_form: room(),
-            // "then 26 .. and 27 .., in the clash place, entry by entry"
-            entry_order: EntryOrder::Clashes,
             told_bit: told_bit(terms),
             // "after a surface base command (21, 23 or 25) the list ends, or the next command is a
             // BEGIN"
@@ -148,7 +129,6 @@ fn table(terms: &Terms) -> Vec<Row> {
         setting(0x26, &[0x8F8F8F]),
         setting(0x30, ONE_FULL),
         setting(0x31, ONE_FULL),
-        surface_table(0x34, terms),
         load(0x40, terms),
         Row { faults: primitive_faults(terms), ..work(0x48, FOUR_FULL) },
         Row { faults: clip_faults(terms), ..setting(0x84, CLIP) },
@@ -189,25 +169,12 @@ fn load(id: u32, terms: &Terms) -> Row {
     Row { payload: Some(payload(terms)), faults: load_faults(terms), ..work(id, LOAD) }
 }
 
-/// "a work command of three words per entry, packed without padding, with Total_Entry plus one entries",
-/// "It puts nothing in the image."
-fn surface_table(id: u32, terms: &Terms) -> Row {
-    let later = LATER_SURFACE.map(|bits| Mask { bits, width: 32 }).to_vec();
-    let entries = Some(RowEntries { count: entry_count(terms), packing: Packing::Tight, later });
-    Row { entries, faults: surface_faults(id, terms), ..work(id, SURFACE) }
-}
-
-/// "that count is our ruling, over 47 too"
-fn entry_count(terms: &Terms) -> EntryCount {
-    EntryCount { field: terms.total_entry, more: 1, too_many: TooMany::Counted }
-}
-
 fn payload(terms: &Terms) -> Payload {
     Payload { groups: terms.load_length, more_groups: 0, group_words: 4 }
 }
 
 fn fault(kind: FaultKind, word: usize, test: Test) -> Fault {
-    Fault { kind, of: OfEntries::Every, word, test }
+    Fault { kind, word, test }
 }
 
 fn illegal(word: usize, test: Test) -> Fault {
@@ -269,24 +236,6 @@ fn raster_faults(terms: &Terms) -> Vec<Fault> {
     vec![fault(FaultKind::RasterBits, 0, terms.page_based.is(0).and(terms.full_page.is_not(0)))]
 }
 
-fn surface_faults(id: u32, terms: &Terms) -> Vec<Fault> {
-    use FaultKind::{EndBelowBase, Tiling};
-    let of = |of: OfEntries, fault: Fault| Fault { of, ..fault };
-    let not_tiled = terms.surface_mode.one_of(&[1, 3, 5], 8).not();
-    let base = Value::Field(terms.surface_base);
-    vec![
-        // "Total_Entry is 0 to 47 in the first entry and zero in later ones."
-        of(OfEntries::First, illegal(0, terms.total_entry.over(Value::Number(47)))),
-        of(OfEntries::Later, illegal(0, terms.total_entry.is_not(0))),
-        // "The first word of each entry carries id 34."
-        of(OfEntries::Later, illegal(0, terms.id.is_not(id))),
-        // "Enable_Tiled may be set only in modes 1, 3 and 5."
-        fault(Tiling, 1, terms.enable_tiled.is_not(0).and(not_tiled)),
-        // "If the end address is below the base, the entry is refused."
-        fault(EndBelowBase, 2, terms.surface_end.below(base)),
-    ]
-}
-
 fn check(verdict: u32, test: Test, position: Position) -> Check {
     Check { verdict, when: When::Holds(test), position }
 }
@@ -301,23 +250,19 @@ fn before_commands() -> Vec<Check> {
 }
 
 fn each_command() -> Vec<Check> {
-    use FaultKind::{
-        EndBelowBase, Illegal, LoadConverts, PageMaximum, PageMinimum, PlaneRange, RasterBits,
-        Tiling,
-    };
-    use Position::{EntryFirst, FirstWord, ThatWord};
+    use FaultKind::{Illegal, LoadConverts, PageMaximum, PageMinimum, PlaneRange, RasterBits};
+    use Position::{FirstWord, ThatWord};
     let fault = |verdict, kind, position| Check { verdict, when: When::Fault(kind), position };
     vec![
         // "unknown id"
         check(3, Quantity::Known.is(0), FirstWord),
         // "id 03 or 04"
         check(4, Quantity::OnlyThroughPci.is_not(0), FirstWord),
-        // "fewer than four words left for a group", "5 for a cut table"
+        // "fewer than four words left for a group"
         check(5, Quantity::WordsLeft.fewer_than(Quantity::OwnWords), FirstWord),
         // "undefined bit set": "lowest such word"
         Check { verdict: 6, when: When::UndefinedBit(WhichWord::Lowest), position: ThatWord },
-        // "illegal value": "lowest such word"; "7 for a wrong Total_Entry or entry id", "at the entry's
-        // first word"
+        // "illegal value": "lowest such word"
         fault(7, Illegal, ThatWord),
         // "Number 8 is no longer given. Refusals, in 8's old place", at the "command's first word":
         // "15 maximum over the bank's limit, 16 minimum against maximum", "Where 15 and 16 both
@@ -330,10 +275,6 @@ fn each_command() -> Vec<Check> {
         fault(18, LoadConverts, FirstWord),
         // "19 plane range"
         fault(19, PlaneRange, FirstWord),
-        // "26 tiling against mode and 27 end below base, in the clash place, entry by entry, at the
-        // entry's first word"
-        fault(26, Tiling, EntryFirst),
-        fault(27, EndBelowBase, EntryFirst),
         // "payload cut short"
         check(9, Quantity::WordsLeft.fewer_than(Quantity::Length), FirstWord),
         // "this command follows a surface base and is not a BEGIN"
@@ -466,9 +407,6 @@ fn addresses() -> Addresses {
         group_words: 4,
         // "Each payload group of a load uses the load's own four addresses again."
         payload: PayloadAddresses::StartAgain,
-        // "Over PCI each entry uses the command's first three addresses again"
-        entry_words: 3,
-        entries: EntryAddresses::StartAgain,
     }
 }
 
@@ -506,10 +444,6 @@ fn from_pci(terms: &Terms) -> FromPci {
         // "a load's length is always its header's"
         loads: ids(&[0x40]),
         payload: payload(terms),
-        // "three words per entry", "with Total_Entry plus one entries; that count is our ruling, over 47
-        // too"
-        tables: ids(&[0x34]),
-        entries: entry_count(terms),
         // "Order there: 1, 2", for a list of one word from each pair
         before_pairs: before_commands(),
         // "13 or 14 as the pairs are met (13 first inside a cut command)"

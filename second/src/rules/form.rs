@@ -53,11 +53,7 @@ impl Rules {
         }
         let words = match rules.work {
             WorkWords::WithPayload => command.words,
-            WorkWords::OwnWords => &command.words[..command.row.size(command.words)],
-            WorkWords::FirstEntry if command.row.entries.is_some() => {
-                &command.words[..command.row.own_words()]
-            }
-            WorkWords::FirstEntry => command.words,
+            WorkWords::OwnWords => &command.words[..command.row.own_words()],
             WorkWords::FirstWord => &command.words[..1],
             WorkWords::NoWords => &[],
         };

@@ -52,10 +52,6 @@ impl Field {
         Value::Field(self).over(limit)
     }
 
-    pub fn below(self, other: Value) -> Test {
-        Test::Compare(Value::Field(self), Comparison::Below, other)
-    }
-
     pub fn at_least(self, other: Value) -> Test {
         Test::Compare(Value::Field(self), Comparison::AtLeast, other)
     }

@@ -1,8 +1,8 @@
 //! The writes over PCI: pairs of address and value for a list, and the list of such pairs.
 
 use super::{
-    put, Address, Addresses, Answer, BeginWords, Command, EntryAddresses, Facts, Field, Flip,
-    FromPci, IdOf, OddWord, PairWord, PayloadAddresses, Refusal, Rules, ToPci, WithId, OTHER_ID,
+    put, Address, Addresses, Answer, BeginWords, Command, Facts, Field, Flip, FromPci, IdOf,
+    OddWord, PairWord, PayloadAddresses, Refusal, Rules, ToPci, WithId, OTHER_ID,
 };
 
 impl Rules {
@@ -62,7 +62,7 @@ impl Rules {
         let words = &values[at..values.len().min(at + length)];
         let address = |(k, &given): (usize, &u32)| Address {
             given: given & rules.compared.bits,
-            expected: rules.address(&rules.addresses, words, k) & rules.compared.bits,
+            expected: rules.addresses.of(rules.id, words, k) & rules.compared.bits,
         };
         let addresses: Vec<Address> =
             given[at..at + words.len()].iter().enumerate().map(address).collect();
@@ -80,8 +80,8 @@ impl Rules {
 }
 
 impl Addresses {
-    /// The address of word `k` of a command, which may be one of entries.
-    pub fn of(&self, id: Field, words: &[u32], k: usize, entries: bool) -> u32 {
+    /// The address of word `k` of a command.
+    pub fn of(&self, id: Field, words: &[u32], k: usize) -> u32 {
         let id_there = match self.id_of {
             IdOf::Command => id.of(words),
             IdOf::EachWord => id.of(&words[k..]),
@@ -95,40 +95,25 @@ impl Addresses {
             WithId::SumFourTimes => base.wrapping_add(id_there).wrapping_mul(4),
             WithId::NotAtAll => base,
         };
-        let steps = match entries {
-            true => self.steps_of_entries(k),
-            false => self.steps_of_groups(k),
-        };
-        first.wrapping_add(self.step * steps as u32)
-    }
-
-    fn steps_of_groups(&self, k: usize) -> usize {
-        match self.payload {
+        let steps = match self.payload {
             PayloadAddresses::StartAgain => k % self.group_words,
             PayloadAddresses::RunOn => k,
             PayloadAddresses::FirstAlone if k < self.group_words => k,
             PayloadAddresses::FirstAlone => 0,
-        }
-    }
-
-    fn steps_of_entries(&self, k: usize) -> usize {
-        match self.entries {
-            EntryAddresses::StartAgain => k % self.entry_words,
-            EntryAddresses::AsGroups => k % self.group_words,
-            EntryAddresses::RunOn => k,
-            EntryAddresses::FirstAlone => 0,
-        }
+        };
+        first.wrapping_add(self.step * steps as u32)
     }
 }
 
 impl ToPci {
     fn pairs_of(&self, command: &Command) -> Vec<u32> {
         let is_begin = command.row.flip == Flip::Begin;
-        let of = |words, k| self.addresses.of(self.id, words, k, command.row.entries.is_some());
         let address = |k: usize| match self.begin {
-            BeginWords::OneWord if is_begin => of(command.words, 0),
-            BeginWords::OwnCommands if is_begin => of(&command.words[k..], 0),
-            _ => of(command.words, k),
+            BeginWords::OneWord if is_begin => self.addresses.of(self.id, command.words, 0),
+            BeginWords::OwnCommands if is_begin => {
+                self.addresses.of(self.id, &command.words[k..], 0)
+            }
+            _ => self.addresses.of(self.id, command.words, k),
         };
         let word = |k: usize, word: &PairWord| match word {
             PairWord::Address => address(k),
@@ -164,17 +149,8 @@ impl FromPci {
     /// The words of the command that begins here, by its first word alone.
     pub fn command_words(&self, values: &[u32]) -> usize {
         let id = self.id.of(values);
-        let own = match (self.tables.has(id), self.groups.has(id)) {
-            (true, _) => self.addresses.entry_words * self.entries.of(values),
-            (_, true) => self.addresses.group_words,
-            _ => 1,
-        };
+        let own = if self.groups.has(id) { self.addresses.group_words } else { 1 };
         own + if self.loads.has(id) { self.payload.words(values) } else { 0 }
-    }
-
-    /// The address of word `k` of a command, by the addresses given.
-    pub fn address(&self, addresses: &Addresses, words: &[u32], k: usize) -> u32 {
-        addresses.of(self.id, words, k, self.tables.has(self.id.of(words)))
     }
 }
 

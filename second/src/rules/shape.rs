@@ -24,7 +24,6 @@ parts! {
         pub each_command: Vec<Check>,
         pub room_for_records: Vec<Check>,
         pub room_for_form: Vec<Check>,
-        pub entry_order: EntryOrder,
         pub told_bit: ToldBit,
         pub base_may_end_list: bool,
         pub base_lasts: BaseLasts,
@@ -67,7 +66,7 @@ pub enum Leaves {
     AllWords(usize),
 }
 
-/// A row of the table: one mask for each word of the command, or of its first entry.
+/// A row of the table: one mask for each word of the command.
 #[derive(Clone, Debug, PartialEq)]
 pub struct Row {
     pub id: u32,
@@ -76,7 +75,6 @@ pub struct Row {
     pub leaves: Leaves,
     pub flip: Flip,
     pub payload: Option<Payload>,
-    pub entries: Option<RowEntries>,
     pub faults: Vec<Fault>,
     /// The form writes differing settings before this work.
     pub settings_first: bool,
@@ -97,140 +95,25 @@ impl Row {
             leaves: Leaves::Nothing,
             flip: Flip::Neither,
             payload: None,
-            entries: None,
             faults: Vec::new(),
             settings_first: true,
             compared: Mask { bits: (1 << words) - 1, width: words + 1 },
         }
     }
 
-    /// The words of the command without payload, or of one entry.
     pub fn own_words(&self) -> usize {
         self.masks.len()
     }
 
-    /// The words of the command without payload, all entries, by its first word.
-    pub fn size(&self, words: &[u32]) -> usize {
-        let Some(entries) = &self.entries else {
-            return self.own_words();
-        };
-        let packed = self.own_words() * entries.count.of(words);
-        match entries.packing {
-            Packing::Tight => packed,
-            Packing::ToGroups => packed.next_multiple_of(4),
-        }
-    }
-
     /// The words of the command with its payload, by its own words.
     pub fn length(&self, words: &[u32]) -> usize {
-        self.size(words) + self.payload.map_or(0, |payload| payload.words(words))
+        self.own_words() + self.payload.map_or(0, |payload| payload.words(words))
     }
 
-    /// The defined bits of word `k`, of a later entry's first word with the id's.
-    pub fn mask(&self, k: usize) -> Mask {
-        match (&self.entries, self.entry_of(k), k % self.own_words()) {
-            (Some(entries), 1.., k) => {
-                entries.later.get(k).copied().unwrap_or(Mask { bits: !0, width: 32 })
-            }
-            (_, _, k) => self.masks[k],
-        }
-    }
-
-    /// The entry that a word of the command is in.
-    pub fn entry_of(&self, word: usize) -> usize {
-        word / self.own_words()
-    }
-
-    /// The lowest word with a fault of this kind, in the lowest entry that has one.
+    /// The lowest word with a fault of this kind.
     pub fn fault(&self, kind: FaultKind, facts: &Facts) -> Option<usize> {
-        let entries = facts.words.chunks(self.own_words());
-        let last = entries.len().saturating_sub(1);
-        let of_entry = |(entry, words): (usize, _)| {
-            let facts = Facts { words, ..*facts };
-            let of_kind = |fault: &&Fault| fault.kind == kind && fault.of.has(entry, last);
-            let mut faults = self.faults.iter().filter(of_kind);
-            let word = faults.find(|fault| fault.test.holds(&facts))?.word;
-            Some(entry * self.own_words() + word)
-        };
-        entries.enumerate().find_map(of_entry)
-    }
-}
-
-/// The entries of a command, each with as many words.
-#[derive(Clone, Debug, PartialEq)]
-pub struct RowEntries {
-    pub count: EntryCount,
-    pub packing: Packing,
-    /// The defined bits of a later entry's words, of its first word with the id's.
-    pub later: Vec<Mask>,
-}
-
-choices! {
-    /// The words of all entries, or so many that they fill groups of four.
-    pub enum Packing { Tight, ToGroups }
-}
-
-parts! {
-    /// As many entries as the field says, and more.
-    pub struct EntryCount {
-        pub field: Field,
-        pub more: i32,
-        pub too_many: TooMany,
-    }
-}
-
-choices! {
-    /// How many entries a field over the limit counts.
-    pub enum TooMany { Counted, AsLimit, AsZero }
-}
-
-impl EntryCount {
-    /// By the command's first word; one at least, by changed rules too.
-    pub fn of(&self, words: &[u32]) -> usize {
-        const LIMIT: u32 = 47;
-        let field = match (self.too_many, self.field.of(words)) {
-            (TooMany::AsLimit, number) => number.min(LIMIT),
-            (TooMany::AsZero, number) if number > LIMIT => 0,
-            (_, number) => number,
-        };
-        field.saturating_add_signed(self.more).max(1) as usize
-    }
-}
-
-choices! {
-    /// The entries of which a fault is one.
-    pub enum OfEntries { Every, First, Later, Last, AllButLast }
-}
-
-impl OfEntries {
-    pub fn has(self, entry: usize, last: usize) -> bool {
-        match self {
-            OfEntries::Every => true,
-            OfEntries::First => entry == 0,
-            OfEntries::Later => entry > 0,
-            OfEntries::Last => entry == last,
-            OfEntries::AllButLast => entry < last,
-        }
-    }
-}
-
-choices! {
-    /// What is looked for in one entry after the other. All else is looked for in the whole command
-    /// before the next number.
-    pub enum EntryOrder { Clashes, Nothing, ValuesAndClashes, All }
-}
-
-impl EntryOrder {
-    pub fn has(self, when: &When) -> bool {
-        use FaultKind::{EndBelowBase, Illegal, Tiling};
-        match when {
-            When::Fault(Tiling | EndBelowBase) => self != EntryOrder::Nothing,
-            When::Fault(Illegal) => {
-                matches!(self, EntryOrder::ValuesAndClashes | EntryOrder::All)
-            }
-            When::UndefinedBit(_) => self == EntryOrder::All,
-            _ => false,
-        }
+        let mut faults = self.faults.iter().filter(|fault| fault.kind == kind);
+        faults.find(|fault| fault.test.holds(facts)).map(|fault| fault.word)
     }
 }
 
@@ -252,17 +135,13 @@ impl Payload {
 
 choices! {
     /// An illegal value, or one of the clashes.
-    pub enum FaultKind {
-        Illegal, PageMaximum, PageMinimum, RasterBits, LoadConverts, PlaneRange, Tiling,
-        EndBelowBase
-    }
+    pub enum FaultKind { Illegal, PageMaximum, PageMinimum, RasterBits, LoadConverts, PlaneRange }
 }
 
-/// A value that the words of a command, or of an entry, may not have. Faults stand in rising word.
+/// A value that the words of a command may not have. Faults stand in rising word.
 #[derive(Clone, Debug, PartialEq)]
 pub struct Fault {
     pub kind: FaultKind,
-    pub of: OfEntries,
     pub word: usize,
     pub test: Test,
 }
@@ -292,8 +171,6 @@ choices! {
 pub enum Position {
     At(usize),
     FirstWord,
-    /// The first word of the entry that the word is in.
-    EntryFirst,
     ThatWord,
     ListLength,
     WholeWordsRead,
@@ -343,7 +220,7 @@ parts! {
 }
 
 choices! {
-    pub enum RecordWord { Id, Position, Length, Header, FirstWord, OwnWords, EntryWords, Number }
+    pub enum RecordWord { Id, Position, Length, Header, FirstWord, OwnWords, Number }
 }
 
 choices! {
@@ -398,7 +275,7 @@ choices! {
 }
 
 choices! {
-    pub enum WorkWords { WithPayload, OwnWords, FirstEntry, FirstWord, NoWords }
+    pub enum WorkWords { WithPayload, OwnWords, FirstWord, NoWords }
 }
 
 parts! {
@@ -474,8 +351,6 @@ parts! {
         pub step: u32,
         pub group_words: usize,
         pub payload: PayloadAddresses,
-        pub entry_words: usize,
-        pub entries: EntryAddresses,
     }
 }
 
@@ -491,12 +366,6 @@ choices! {
 
 choices! {
     pub enum PayloadAddresses { StartAgain, RunOn, FirstAlone }
-}
-
-choices! {
-    /// Those of an entry's words: the first ones again, those of a group, other ones for each entry, the
-    /// first one alone.
-    pub enum EntryAddresses { StartAgain, AsGroups, RunOn, FirstAlone }
 }
 
 parts! {
@@ -537,9 +406,6 @@ parts! {
         pub groups: Set,
         pub loads: Set,
         pub payload: Payload,
-        /// Ids whose words are entries.
-        pub tables: Set,
-        pub entries: EntryCount,
         /// Refusals of all pairs, of each command's pairs, and of the room for the list.
         pub before_pairs: Vec<Check>,
         pub each_command: Vec<Check>,

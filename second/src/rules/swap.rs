@@ -39,7 +39,7 @@ impl Bytes {
 choices! {
     /// The words of a list that are swapped: all, those of commands without payload, or of each command
     /// the first one, or all but the first.
-    pub enum Swapped { EveryWord, OwnWords, FirstEntries, FirstWords, BehindFirstWords }
+    pub enum Swapped { EveryWord, OwnWords, FirstWords, BehindFirstWords }
 }
 
 choices! {
@@ -106,9 +106,7 @@ impl Rules {
             // Of the command's words; those behind aren't.
             let swapped = match self.swap.swapped {
                 Swapped::EveryWord | Swapped::BehindFirstWords => length,
-                Swapped::OwnWords => row.size(&got[at..=at]),
-                Swapped::FirstEntries if row.entries.is_some() => row.own_words(),
-                Swapped::FirstEntries => length,
+                Swapped::OwnWords => row.own_words(),
                 Swapped::FirstWords => 1,
             };
             let end = list.len().min(at + length);

@@ -5,8 +5,8 @@ mod shape;
 
 use super::pci::Recovered;
 use super::{
-    Answer, ByteOrder, Digits, Facts, Fault, Kind, Leaves, Recorded, Refusal, Row, Rules,
-    SettingOrder, IMAGE_WORDS, OTHER_ID, RECORD_WORDS,
+    Answer, ByteOrder, Digits, Facts, Kind, Leaves, Recorded, Refusal, Row, Rules, SettingOrder,
+    IMAGE_WORDS, OTHER_ID, RECORD_WORDS,
 };
 pub use paper::tool;
 pub use shape::*;
@@ -191,22 +191,13 @@ impl Rules {
 
     /// The words of the command that begins here, by its first word alone.
     fn told_words(&self, words: &[u32]) -> usize {
-        let ToldCommand { groups, loads, payload, tables, entries, .. } = &self.tool.told_command;
+        let ToldCommand { groups, loads, payload, .. } = &self.tool.told_command;
         let id = self.id.of(words);
         let counted = match payload {
             Counted::OfEveryLoad => true,
             Counted::OfLegalLoads => !self.has_fault(&words[..1]),
         };
-        let entries = match entries {
-            EntriesCounted::OfLegalTables if self.has_fault(&words[..1]) => 1,
-            EntriesCounted::OfNone => 1,
-            _ => self.from_pci.entries.of(words),
-        };
-        let own = match (tables.0.contains(&id), groups.0.contains(&id)) {
-            (true, _) => 3 * entries,
-            (_, true) => 4,
-            _ => 1,
-        };
+        let own = if groups.0.contains(&id) { 4 } else { 1 };
         own + match loads.0.contains(&id) && counted {
             true => self.from_pci.payload.words(words),
             false => 0,
@@ -217,8 +208,7 @@ impl Rules {
     fn has_fault(&self, first: &[u32]) -> bool {
         let facts = Facts { words: first, ..Facts::default() };
         let faults = self.row_of(self.id.of(first)).map_or(&[][..], |row| &row.faults);
-        let of_first = |fault: &&Fault| fault.word == 0 && fault.of.has(0, 1);
-        faults.iter().filter(of_first).any(|fault| fault.test.holds(&facts))
+        faults.iter().any(|fault| fault.word == 0 && fault.test.holds(&facts))
     }
 
     fn shown_settings(&self, told: &Told) -> Vec<&Row> {
@@ -298,7 +288,7 @@ impl Rules {
                 let words = told.list.get(subject.at as usize..).unwrap_or(&[]);
                 let k = at.saturating_sub(subject.at as usize);
                 match k < words.len() {
-                    true => self.from_pci.address(&self.from_pci.addresses, words, k),
+                    true => self.from_pci.addresses.of(self.from_pci.id, words, k),
                     false => 0,
                 }
             }

@@ -115,7 +115,6 @@ pub fn stored_runs() -> Vec<RunCase> {
     all.extend(refusals().into_iter().filter(is_stored));
     all.extend(refused_words());
     all.extend(refused_pairs());
-    all.extend(surface_tables());
     all.extend(image_sizes());
     all.extend(orders());
     all.extend(at_random());
@@ -295,7 +294,7 @@ fn refused_words() -> Vec<RunCase> {
     // Behind a payload that looks like commands, whose last word would begin a group.
     let load = [0x40200001, 1, 2, 3, 0x06000000, 0x21000000, 0x03000000, 0x84000000];
     for (number, refused) in
-        [&[0x35000000][..], &[0x01000002], &[0x48000000, 0, 1, 0]].iter().enumerate()
+        [&[0x34000000][..], &[0x01000002], &[0x48000000, 0, 1, 0]].iter().enumerate()
     {
         let verdict = [3, 6, 7][number];
         let list = [&[0x02000001], &load[..], refused].concat();
@@ -362,61 +361,11 @@ fn refused_pairs() -> Vec<RunCase> {
     let refused: [(u32, &[u32]); 3] = [
         (6, &[FLUSH, 0x10000000, 0x80000000, 0xF0000000, 0]),
         (7, &[FLUSH, 0x40500000, 0, 0, 0x12345678]),
-        (3, &[0x40200001, 1, 2, 3, 0, 0, 0, 0x10000000, 0x35000000]),
+        (3, &[0x40200001, 1, 2, 3, 0, 0, 0, 0x10000000, 0x34000000]),
     ];
     for (verdict, list) in refused {
         all.push(run(Task::List, &named(verdict, list), &pairs_of(list), &image));
     }
-    all
-}
-
-/// Tables that are accepted, and refused ones with each task; the command of a refused word in a table and
-/// behind one.
-fn surface_tables() -> Vec<RunCase> {
-    let image = zero_image();
-    let [one, three, _] = lists::accepted_tables();
-    let among = [&[0x02000010], &three[..], &[0x31800001, FLUSH], &one, &[0x02000020]].concat();
-    let accepted = |task| of_list(task, "accepted-tables", &among, &seeded_image(12 + task as u32));
-    let mut all = Vec::from(Task::ALL.map(accepted));
-    for (number, table) in lists::refused_tables().into_iter().enumerate() {
-        let verdict = [5, 6, 7, 7, 26, 27][number];
-        for task in Task::ALL {
-            // Of pairs a cut table ends inside a command. Tasks that say the same share 5 to 7.
-            let verdict = if (task, verdict) == (Task::List, 5) { 14 } else { verdict };
-            let shared = ![Task::Show, Task::List, LIST_TASKS[1 + number % 3]].contains(&task);
-            if verdict < 26 && shared {
-                continue;
-            }
-            let list = [BEFORE[(number + task as usize) % BEFORE.len()], &table[..]].concat();
-            let what = format!("refused-{verdict}-table-{number}");
-            all.push(of_list(task, &what, &list, &image));
-        }
-    }
-    // Groups that are no tables of three words.
-    for (id, task) in [(0x08, Task::Show), (0x0C, Task::Image), (0x14, Task::Pci)] {
-        let what = format!("refused-6-group-{id:02x}");
-        all.push(run(task, &what, &[id << 24, 0, 0, 1], &image));
-    }
-    let group = [0xC4000000, 1, 2, 0x84000000, 0x06000000];
-    all.push(run(Task::Normalise, "refused-3-group-c4", &group, &image));
-    // Too many entries, in the last of which is an undefined bit; tables before a refused command.
-    let mut most = [0x34000000, 0, 0].repeat(64);
-    most[0] |= 63 << 16;
-    most[190] = 0x80000000;
-    all.push(run(Task::Show, "refused-6-too-many-entries", &most, &image));
-    let behind = [&three[..], &one, &[0x06000000]].concat();
-    all.push(run(Task::Pci, "refused-3-behind-tables", &behind, &image));
-    let after_base = [&[0x25000001], &three[..]].concat();
-    all.push(run(Task::Image, "refused-10-table", &after_base, &image));
-    // A wrong address in the first entry, in a later one, behind the table, and in one with too many.
-    let with_more = [&three[..], &[0x02000001]].concat();
-    for (pair, address) in [(2, 0x000028DC), (3, 0x000028DC), (9, 0x000028D0)] {
-        let words = readdressed(&with_more, pair, address);
-        all.push(run(Task::List, &format!("refused-13-table-{pair}"), &words, &image));
-    }
-    let cut = readdressed(&[0x343F0000, 0, 0, 0x34000000], 3, 0x000028DC);
-    all.push(run(Task::List, "refused-13-too-many-entries", &cut, &image));
-    all.push(run(Task::List, "refused-14-too-many-entries", &cut[..6], &image));
     all
 }
 

@@ -2,8 +2,7 @@
 
 use super::{one_changed, one_left_out, two_swapped, within, Variants, Vary};
 use crate::rules::{
-    Check, Fault, FaultKind, Field, Kind, Leaves, Mask, Payload, Position, Row, RowEntries, Table,
-    When,
+    Check, Fault, FaultKind, Field, Kind, Leaves, Mask, Payload, Position, Row, Table, When,
 };
 
 /// Each row changed or left out, each unknown id added, each two settings in the other order.
@@ -50,7 +49,6 @@ impl Vary for Row {
             leaves: _,
             flip,
             payload: _,
-            entries: _,
             faults: _,
             settings_first,
             compared,
@@ -64,7 +62,6 @@ impl Vary for Row {
         }
         all.extend(within("flip", flip, |flip| Row { flip, ..row() }));
         all.extend(self.payload_variants());
-        all.extend(self.entries_variants());
         all.extend(self.fault_variants());
         all.extend(match kind {
             Kind::Work => within("settings first", settings_first, |settings_first| Row {
@@ -132,40 +129,11 @@ impl Row {
         all
     }
 
-    /// None, another number of them, each bit of each mask of a later one.
-    fn entries_variants(&self) -> Variants<Row> {
-        let row = |entries| Row { entries, ..self.clone() };
-        let Some(entries) = &self.entries else {
-            return Vec::new();
-        };
-        let mut all = within("entries", &entries.count, |count| {
-            row(Some(RowEntries { count, ..entries.clone() }))
-        });
-        all.extend(within("packing", &entries.packing, |packing| {
-            row(Some(RowEntries { packing, ..entries.clone() }))
-        }));
-        for (name, later) in one_changed(&entries.later) {
-            let entries = RowEntries { later, ..entries.clone() };
-            all.push((format!("entries: later mask {name}"), row(Some(entries))));
-        }
-        all.push(("entries: none".into(), row(None)));
-        all
-    }
-
-    /// Each fault changed, left out or of other entries, each two neighbours of one kind swapped.
+    /// Each fault changed or left out, each two neighbours of one kind swapped.
     fn fault_variants(&self) -> Variants<Row> {
         let mut all = one_changed(&self.faults);
         all.extend(one_left_out(&self.faults));
-        all.extend(two_swapped(&self.faults, |a, b| a.kind == b.kind && a.word != b.word));
-        if self.entries.is_some() {
-            for (k, fault) in self.faults.iter().enumerate() {
-                all.extend(within(&format!("fault {k}: of"), &fault.of, |of| {
-                    let mut faults = self.faults.clone();
-                    faults[k].of = of;
-                    faults
-                }));
-            }
-        }
+        all.extend(two_swapped(&self.faults, |a, b| a.kind == b.kind));
         all.into_iter().map(|(name, faults)| (name, Row { faults, ..self.clone() })).collect()
     }
 }
@@ -188,7 +156,7 @@ impl Vary for Payload {
 
 impl Vary for Fault {
     fn variants(&self) -> Variants<Self> {
-        let Fault { kind, of: _, word, test } = self;
+        let Fault { kind, word, test } = self;
         let mut all = within("kind", kind, |kind| Fault { kind, ..self.clone() });
         all.extend(within("test", test, |test| Fault { test, ..self.clone() }));
         // A clash is told at the first word.
@@ -229,7 +197,6 @@ impl Check {
             At(number) => vec![At(0), At(number - 1), At(number + 1), ListLength],
             FirstWord if of_word => vec![At(0), ThatWord, ListLength],
             FirstWord => vec![At(0), ListLength],
-            EntryFirst => vec![At(0), FirstWord, ThatWord, ListLength],
             ThatWord => vec![At(0), FirstWord, ListLength],
             ListLength => vec![At(0)],
             WholeWordsRead => vec![At(0)],

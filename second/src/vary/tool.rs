@@ -4,7 +4,7 @@ use super::{one_changed, one_left_out, within, Variants, Vary};
 use crate::rules::{self, Ids, Name, Names, Piece, RefusalRow, RefusalRows};
 
 /// Ids that a reader of the guide could take for commands, and the last one.
-pub const UNNAMED_IDS: [u32; 8] = [0x06, 0x07, 0x09, 0x35, 0x41, 0x85, 0xC8, 0xFF];
+pub const UNNAMED_IDS: [u32; 8] = [0x06, 0x07, 0x09, 0x34, 0x41, 0x85, 0xC8, 0xFF];
 
 /// Each name changed or left out, each two neighbours' names swapped, a name for some ids that have
 /// none.

@@ -7,8 +7,7 @@ use borrow.Author.Rules.{rules}
 use Rattle.rules.specs.Pci.{values}
 use Rattle.pairs.proofs.Pairs.{pair_count}
 use Rattle.desk.specs.Desk.{perform}
-use Rattle.theory.proofs.Image.{front}
-use Rattle.desk.proofs.Written.{fits-list}
+use Rattle.desk.proofs.Written.{fits-list, front}
 use Rattle.desk.proofs.from_pci.Statement.{statement}
 use Rattle.desk.proofs.from_pci.Tie as tie
 

@@ -9,7 +9,7 @@ use Rattle.table.specs.Tables.{more}
 use Rattle.faults.proofs.FirstFault.{undefined_near}
 use Rattle.command.specs.View.{group_of, if_legal}
 use Rattle.command.proofs.Sizes.{no_payload}
-use Rattle.command.proofs.Decoding.{other_here, group-undefined}
+use Rattle.command.proofs.Decoding.{group-undefined}
 use Rattle.pairs.proofs.Pairs.{pair_count}
 use Rattle.pci_reader.specs.View.{Met, placed_group}
 use Rattle.pci_reader.proofs.Meeting.{neither, group-whole, group_bit, met-group, met_fixed}
@@ -30,9 +30,7 @@ group-at-requires : tie.Need-group-at-requires
 group-at-requires c κs = omega (arith, c.if1.false, c.before.before.requires.0.inside, pair_count c.before.before.args.pairs.now)
 
 group-placed-requires : tie.Need-group-placed-requires
-group-placed-requires c κs =
-    let a = c.before.before.before in
-    (omega (arith, c.before.if1.false, a.requires.0.inside, pair_count a.args.pairs.now), other_here _ a.args.at _ _ a.requires.0 a.ranges.id.fits)
+group-placed-requires c κs = omega (arith, c.before.if1.false, c.before.before.before.requires.0.inside, pair_count c.before.before.before.args.pairs.now)
 
 refused-fault-requires : tie.Need-refused-fault-requires
 refused-fault-requires c κs = let a = c.before.before.before.before.before.before.before in omega (arith, undefined_near _ c.before.before.before.before.group_at.result _ c.undefined-fault.ensures, a.requires.0.inside, a.well-formed, pair_count a.args.pairs.now)

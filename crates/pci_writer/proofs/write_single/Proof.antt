@@ -9,7 +9,7 @@ slice-write-pairs-2 : tie.Need-slice-write-pairs-2
 slice-write-pairs-2 c = simp length-set (omega arith)
 
 returns : tie.Need-returns
-returns c = rw (c.before.group-address.ensures, c.fetch.ensures, add-one)
+returns c = rw (c.before.address.ensures, c.fetch.ensures, add-one)
 
 pub write-single-spec : {M : Type 1} → statement M
 write-single-spec = tie.close

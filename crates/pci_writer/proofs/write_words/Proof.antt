@@ -24,7 +24,7 @@ loop-again c =
     let a = c.before.before.before.before.before.before in
     let v = c.before.before.before.loop in (
       omega arith,
-      rw (c.before.group-address.ensures, c.fetch.ensures, v.invariant.1) (pair_on a.args.pairs.now a.args.list.now a.args.id a.args.at v.i),
+      rw (c.before.address.ensures, c.fetch.ensures, v.invariant.1) (pair_on a.args.pairs.now a.args.list.now a.args.id a.args.at v.i),
       simp length-set v.invariant.2,
     )
 

@@ -5,4 +5,4 @@ use Rattle.runs.proofs.case_buffer.Statement.{statement}
 use Rattle.runs.proofs.case_buffer.Tie as tie
 
 pub case-buffer-spec : {M : Type 1} → statement M
-case-buffer-spec = tie.close (tie.spec (λ c. sym (length-replicate {A = ℕ} 500000 0)))
+case-buffer-spec = tie.close (tie.spec (λ c. sym (length-replicate {A = ℕ} 400000 0)))

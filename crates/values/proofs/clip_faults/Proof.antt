@@ -1,10 +1,10 @@
-use Rattle.rules.specs.Values.{group_faults}
+use Rattle.values.specs.Broken.{clip_broken}
 use borrow.Author.Rules.{rules}
 use Rattle.values.proofs.clip_faults.Statement.{statement}
 use Rattle.values.proofs.clip_faults.Tie as tie
 
 returns : tie.Need-returns
-unfolding group_faults
+unfolding clip_broken
 returns c = rw (c.clash2.ensures, c.before.before.clash.ensures, c.before.page-limit.ensures)
 
 pub clip-faults-spec : {M : Type 1} → statement M

@@ -1,10 +1,10 @@
-use Rattle.rules.specs.Values.{group_faults}
+use Rattle.values.specs.Broken.{raster_broken}
 use borrow.Author.Rules.{rules}
 use Rattle.values.proofs.raster_faults.Statement.{statement}
 use Rattle.values.proofs.raster_faults.Tie as tie
 
 returns : tie.Need-returns
-unfolding group_faults
+unfolding raster_broken
 returns c = rw c.clash.ensures
 
 pub raster-faults-spec : {M : Type 1} → statement M

@@ -68,9 +68,7 @@ pub fn all() -> Vec<Mutant> {
     let mut all = Vec::new();
     for function in [Function::Reader, Function::FromPci] {
         for row in &rules::paper().table.0 {
-            // Of a command with entries those of the first, a middle and the last one.
-            let entries = if row.entries.is_some() { 3 } else { 1 };
-            for k in 0..entries * row.own_words() {
+            for k in 0..row.own_words() {
                 all.extend(bits_of_word(function, row, k));
             }
         }
@@ -79,8 +77,8 @@ pub fn all() -> Vec<Mutant> {
 }
 
 fn bits_of_word(function: Function, row: &Row, k: usize) -> Vec<Mutant> {
-    let width = row.mask(k).width;
-    let undefined = !row.mask(k).bits & u32::MAX >> (32 - width);
+    let width = row.masks[k].width;
+    let undefined = !row.masks[k].bits & u32::MAX >> (32 - width);
     if undefined == 0 {
         return Vec::new();
     }

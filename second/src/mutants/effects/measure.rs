@@ -64,12 +64,10 @@ fn words_by_id() -> Vec<Mutant> {
     for row in &rules::paper().table.0 {
         let (id, own_words) = (row.id, row.own_words());
         let at = accepted(format!("measure: {id:02X} in the form"));
-        let mut counts = vec![("not counted", 0), ("counted as one word", 1)];
-        counts.retain(|(_, words)| *words != own_words);
-        if row.entries.is_some() {
-            counts.push(("counted as one entry", own_words));
-        }
-        for (what, words) in counts {
+        for (what, words) in [("not counted", 0), ("counted as one word", 1)] {
+            if words == own_words {
+                continue;
+            }
             all.push(at.change(what, move |case, outcome| {
                 outcome.answer[WORDS] = counted(&form_of(case), |command| {
                     if command.row.id == id {

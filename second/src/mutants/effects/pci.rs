@@ -5,10 +5,9 @@ use crate::lists::{Case, CaseKind};
 use crate::outcome::{self, Function, Outcome};
 use crate::rules::{self, put, Command};
 
-/// The words of a group, a load's with two payload groups, and a surface table's of three entries.
+/// The words of a group, and a load's with two payload groups.
 const GROUP_WORDS: usize = 4;
 const LOAD_WORDS: usize = 12;
-const TABLE_WORDS: usize = 9;
 
 pub fn all() -> Vec<Mutant> {
     let mut all = Vec::new();
@@ -39,7 +38,6 @@ pub fn all() -> Vec<Mutant> {
 fn words() -> Vec<(u32, usize)> {
     let groups = &rules::paper().from_pci.groups;
     let count = |id: u32| match id {
-        0x34 => TABLE_WORDS,
         0x40 => LOAD_WORDS,
         _ if groups.has(id) => GROUP_WORDS,
         _ => 1,
@@ -78,7 +76,7 @@ fn command_of(values: &[u32], pair: usize) -> (u32, usize, u32) {
     }
     let words = &values[first..];
     let k = pair - first;
-    (rules.id.of(words), k, rules.address(&rules.addresses, words, k))
+    (rules.id.of(words), k, rules.addresses.of(rules.id, words, k))
 }
 
 /// The address of this word isn't looked at.

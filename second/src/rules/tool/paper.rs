@@ -8,9 +8,9 @@ use crate::rules::{ByteOrder, Check, Digits, Position, Recorded, Set, SettingOrd
 const ALL: &[Task] = &Task::ALL;
 const WITH_OUT: &[Task] = &[Task::Image, Task::Normalise, Task::Pci, Task::List];
 /// "8 is no longer given, and 11 never by the tool"
-const REFUSALS: &[u32] = &[1, 2, 3, 4, 5, 6, 7, 9, 10, 12, 13, 14, 15, 16, 17, 18, 19, 26, 27];
+const REFUSALS: &[u32] = &[1, 2, 3, 4, 5, 6, 7, 9, 10, 12, 13, 14, 15, 16, 17, 18, 19];
 /// "not with 1, 2 and 12"
-const AT_A_WORD: &[u32] = &[3, 4, 5, 6, 7, 9, 10, 13, 14, 15, 16, 17, 18, 19, 26, 27];
+const AT_A_WORD: &[u32] = &[3, 4, 5, 6, 7, 9, 10, 13, 14, 15, 16, 17, 18, 19];
 
 pub fn tool() -> Tool {
     Tool {
@@ -52,16 +52,13 @@ fn sizes(most: u32) -> Vec<Check> {
 
 /// "from word 0 on, commands follow each other, each with the words that its id and header give it
 /// (payload included; an unknown id, 03 and 04 are one word; .. a load's payload counts as its header
-/// says, and so do a surface table's entries, three words each, whatever is wrong with them): the one
-/// whose words reach over P"
+/// says): the one whose words reach over P"
 fn told_command() -> ToldCommand {
     ToldCommand {
         found: Found::FromFirstWord,
         groups: Ids(vec![0x08, 0x0C, 0x10, 0x14, 0x40, 0x48, 0x84, 0x88, 0x8C, 0x90, 0xC4]),
         loads: Ids(vec![0x40]),
         payload: Counted::OfEveryLoad,
-        tables: Ids(vec![0x34]),
-        entries: EntriesCounted::OfEveryTable,
     }
 }
 
@@ -83,7 +80,7 @@ fn line(tasks: &[Task], verdicts: Set, repeated: Repeated, pieces: &[Piece]) -> 
 }
 
 fn refused_line(tasks: &[Task], verdicts: &[u32], pieces: &[Piece]) -> Line {
-    line(tasks, Set { members: verdicts.to_vec(), below: 28 }, Repeated::Once, pieces)
+    line(tasks, Set { members: verdicts.to_vec(), below: 20 }, Repeated::Once, pieces)
 }
 
 fn accepted_line(tasks: &[Task], repeated: Repeated, pieces: &[Piece]) -> Line {
@@ -200,7 +197,7 @@ fn accepted() -> Vec<Line> {
     ]
 }
 
-const NAMES: [(u32, &str); 27] = [
+const NAMES: [(u32, &str); 26] = [
     (0x00, "flush"),
     (0x01, "reset"),
     (0x02, "timer threshold"),
@@ -220,7 +217,6 @@ const NAMES: [(u32, &str); 27] = [
     (0x26, "extended base"),
     (0x30, "2D overflow base"),
     (0x31, "2D overflow offset"),
-    (0x34, "surface table"),
     (0x40, "LOAD_GP"),
     (0x48, "primitive"),
     (0x84, "window clip"),
@@ -234,7 +230,7 @@ fn row((verdict, meaning, look): (u32, &str, &str)) -> RefusalRow {
     RefusalRow { verdict, meaning: meaning.into(), look: look.into() }
 }
 
-const ROWS: [(u32, &str, &str); 19] = [
+const ROWS: [(u32, &str, &str); 17] = [
     (1, "more than 4,096 words", "split the list"),
     (2, "the image has not 256 words", "the caller's image, not the list"),
     (
@@ -243,11 +239,7 @@ const ROWS: [(u32, &str, &str); 19] = [
         "bits 31..24 of that word; often the command before has a wrong length",
     ),
     (4, "id 03 or 04", "these go over PCI only, never in a list"),
-    (
-        5,
-        "fewer than four words left for a group, or a surface table cut short",
-        "the list was cut, or its last command; a table has three words for each entry, header bits 21..16 (Total_Entry) plus one of them",
-    ),
+    (5, "fewer than four words left for a group", "the list was cut, or its last group"),
     (
         6,
         "undefined bit set",
@@ -256,7 +248,7 @@ const ROWS: [(u32, &str, &str); 19] = [
     (
         7,
         "illegal value",
-        "load code, zero words of a load or primitive, bank 3 of a window clip; of an entry of a surface table bits 21..16 (Total_Entry), at most 47 in the first entry and 0 in a later one, or the id, which is 34",
+        "load code, zero words of a load or primitive, bank 3 of a window clip",
     ),
     (
         9,
@@ -273,7 +265,7 @@ const ROWS: [(u32, &str, &str); 19] = [
     (
         14,
         "PCI writes only: the pairs end inside a command",
-        "the writes were cut, or a load's length or a surface table's Total_Entry is too large",
+        "the writes were cut, or a load's length is too large",
     ),
     (
         15,
@@ -299,15 +291,5 @@ const ROWS: [(u32, &str, &str); 19] = [
         19,
         "load: plane range",
         "header bits 18..10 (offset) and 8..0 (length): their sum is at most 8 with code 5",
-    ),
-    (
-        26,
-        "surface table: tiling against the mode",
-        "second word of the entry, bit 26 (Enable_Tiled): it may be set only with mode 1, 3 or 5 in bits 14..12 of the first",
-    ),
-    (
-        27,
-        "surface table: end address below the base",
-        "third word of the entry: bits 15..0 (end) are at least bits 31..16 (base)",
     ),
 ];

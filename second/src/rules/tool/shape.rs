@@ -83,8 +83,6 @@ parts! {
         pub groups: Ids,
         pub loads: Ids,
         pub payload: Counted,
-        pub tables: Ids,
-        pub entries: EntriesCounted,
     }
 }
 
@@ -100,11 +98,6 @@ choices! {
 choices! {
     /// Whose payload counts.
     pub enum Counted { OfEveryLoad, OfLegalLoads }
-}
-
-choices! {
-    /// Whose entries count behind the first.
-    pub enum EntriesCounted { OfEveryTable, OfLegalTables, OfNone }
 }
 
 parts! {
