@@ -1,6 +1,8 @@
 // A scene book (document 02, Ticket 8): scenes in one file, behind a table of contents.
 //
 // Each rule on contents goes over all entries before the next. None looks at a body.
+#![tactic(auto)]
+
 ghost use Rattle.std.specs.Prelude.{◌≡◌, true, false, cond, ◌+◌, ◌-◌, ◌*◌, ◌≤◌, ◌<◌, length, drop};
 ghost use Rattle.std.proofs.lemmas.List.Edits.{sets};
 ghost use Rattle.rules.specs.Book.{book_answer, book_outcome, entries, rising, fault_of, count, in_place, bodies_at, no_scene, look_up, finding_scene, stretch};

@@ -1,4 +1,6 @@
 // One command of a list: its size, and its decoding.
+#![tactic(auto)]
+
 ghost use Rattle.std.specs.Prelude.{◌≡◌, true, false, ◌+◌, ◌^◌, ◌<◌, ◌≤◌, length};
 ghost use Rattle.rules.specs.Table.{row_of};
 ghost use Rattle.rules.specs.Command.{payload, size_of};
@@ -15,7 +17,7 @@ use rules::{NO_BIT, Refusal};
 use table::Group;
 
 // A decoded command: its words with payload, and whether it is a setting, a BEGIN, a surface base.
-#[derive(Drop)]
+#[derive(Clone, Copy)]
 pub struct Command {
     pub words: usize,
     pub setting: bool,
@@ -24,7 +26,7 @@ pub struct Command {
 }
 
 // A command, or its refusal.
-#[derive(Drop)]
+#[derive(Clone, Copy)]
 pub enum Decoded {
     Command(Command),
     Refused(Refusal),

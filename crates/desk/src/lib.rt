@@ -1,4 +1,6 @@
 // What the tool makes of the bytes of two files, in lent buffers: a text, and the bytes to write.
+#![tactic(auto)]
+
 ghost use Rattle.std.specs.Prelude.{◌≡◌, List, [], ℕ, ◌≤◌, length};
 ghost use Rattle.desk.specs.declared.Task.TheVariants as task;
 ghost use Rattle.desk.specs.Desk.{make, perform, most, size_refusal, made};
@@ -7,7 +9,7 @@ ghost use Rattle.desk.specs.Makes.{Makes};
 
 use rules::{Answer, NO_BIT, Refusal};
 
-#[derive(Drop)]
+#[derive(Clone, Copy)]
 pub enum Task {
     Show,
     Image,
@@ -17,7 +19,7 @@ pub enum Task {
 }
 
 // Whether there are bytes to write; the bytes of the verdict's text, of the whole text, and of what is to be written.
-#[derive(Drop)]
+#[derive(Clone, Copy)]
 pub struct Sizes {
     pub writes: bool,
     pub verdict: usize,
@@ -178,7 +180,7 @@ pub fn most(task: Task) -> usize
     }
 }
 
-#[derive(Drop)]
+#[derive(Clone, Copy)]
 enum Fault {
     Found(Refusal),
     Nothing,

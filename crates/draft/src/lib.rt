@@ -2,6 +2,8 @@
 //
 // A setting's words still stand in the list, so the form remembers where each was last set (`latest`) and sent (`sent`), as
 // crates/settings has them.
+#![tactic(auto)]
+
 ghost use Rattle.std.specs.Prelude.{◌≡◌, ◌+◌, ◌-◌, ◌<◌, ◌≤◌, min, length, set};
 ghost use Rattle.std.proofs.lemmas.List.Edits.{sets};
 ghost use Rattle.rules.specs.Form.{read};
@@ -12,7 +14,7 @@ ghost use Rattle.draft.specs.Drafts.{made, behind_setting, after_work, after_com
 use table::Settings;
 
 // Where the form stands: the position in the list, the words written, and the settings set since the last work command.
-#[derive(Drop)]
+#[derive(Clone, Copy)]
 pub struct Draft {
     pub at: usize,
     pub written: usize,

@@ -1,5 +1,7 @@
 // The first fault of a command: an undefined bit in one of its own words, else the first of the rules on values (crates/values) that
 // it breaks.
+#![tactic(auto)]
+
 ghost use Rattle.std.specs.Prelude.{◌≡◌, cond, ◌<◌};
 ghost use Rattle.rules.specs.Values.{refusal};
 ghost use Rattle.table.specs.Tables.{row_count, mask_table, group};

@@ -1,4 +1,6 @@
 // The normal form of a list: the normaliser, and the measurer, which tells its length (document 02, Ticket 4).
+#![tactic(auto)]
+
 ghost use Rattle.std.specs.Prelude.{◌≡◌, length};
 ghost use Rattle.std.proofs.lemmas.List.Edits.{sets};
 ghost use Rattle.rules.specs.Answer.{outcome, normalising, measuring, normal_form, IsAccepted};

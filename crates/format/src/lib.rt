@@ -1,5 +1,7 @@
 // Texts with holes for numbers, and tables of text, in a lent buffer. Each part goes from position `at` on, and the answer
 // is the position behind it; what does not fit is left out.
+#![tactic(auto)]
+
 ghost use Rattle.std.specs.Prelude.{◌≡◌, ◌≤◌, length, drop};
 ghost use Rattle.text.specs.Puts.{Puts, Bounded};
 ghost use Rattle.format.specs.Format.{line_of, table_row, hole, formatted};

@@ -1,4 +1,6 @@
 // The functions that C and Rust call (xp10.h).
+#![tactic(auto)]
+
 ghost use Rattle.std.specs.Prelude.{◌≡◌};
 ghost use Rattle.rules.specs.Answer.{measuring};
 ghost use Rattle.rules.specs.Pci.{to_pci, from_pci};

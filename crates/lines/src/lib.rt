@@ -1,5 +1,7 @@
 // The lines of a listing, as text in a lent buffer. A part of it goes from position `at` on, and the answer is the
 // position behind it.
+#![tactic(auto)]
+
 ghost use Rattle.std.specs.Prelude.{◌+◌, ◌<◌, length};
 ghost use Rattle.text.specs.Puts.{Puts, Bounded};
 ghost use Rattle.lines.specs.Lines.{line_at, record_lines, counts_line, refused_line};

@@ -1,4 +1,6 @@
 // A whole list: the cursor that walks it, and the verdict.
+#![tactic(auto)]
+
 ghost use Rattle.std.specs.Prelude.{◌≡◌, cond, ◌+◌, ◌<◌, length};
 ghost use Rattle.rules.specs.Walk.{walk, parse};
 ghost use Rattle.rules.specs.Values.{refusal};
@@ -12,7 +14,7 @@ use masks::Masks;
 use rules::{Answer, NO_BIT, Refusal};
 
 // Where the walk stands: the position and the counts after the commands passed, and whether the last was a surface base.
-#[derive(Drop)]
+#[derive(Clone, Copy)]
 pub struct Cursor {
     pub at: usize,
     pub commands: usize,
@@ -21,14 +23,14 @@ pub struct Cursor {
 }
 
 // The cursor after the next command, or its refusal.
-#[derive(Drop)]
+#[derive(Clone, Copy)]
 pub enum Step {
     On(Cursor),
     Refused(Refusal),
 }
 
 // The commands and the records of an accepted list, or the refusal.
-#[derive(Drop)]
+#[derive(Clone, Copy)]
 pub enum Walked {
     Accepted(usize, usize),
     Refused(Refusal),

@@ -1,5 +1,7 @@
 // Prints the listing of the command list on standard input. A read or a write that fails is reported on standard error;
 // a failed read ends the input.
+#![tactic(auto)]
+
 ghost use Rattle.std.specs.Prelude.{◌≤◌, length};
 
 use libc::{STDIN_FILENO, STDOUT_FILENO};

@@ -1,5 +1,7 @@
 // A test of the listing. Standard input has inputs one behind the other, each after its length in two bytes, low first;
 // their listings go to standard output.
+#![tactic(auto)]
+
 use libc::{STDIN_FILENO, STDOUT_FILENO};
 
 // What the program `listing` does with its standard input.

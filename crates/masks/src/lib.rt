@@ -2,6 +2,8 @@
 // mask does not define.
 //
 // As the table of rows, the table of masks is made once for a whole list and lent.
+#![tactic(auto)]
+
 ghost use Rattle.std.specs.Prelude.{◌≡◌, ◌<◌};
 ghost use Rattle.rules.specs.Word.{lowest_undefined, undefined, LowestOrNone};
 ghost use Rattle.table.specs.Tables.{row_count, mask_at, mask_table};

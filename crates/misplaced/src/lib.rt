@@ -1,4 +1,6 @@
 // Refusals 13 and 14: which of them, and where, only a refusal asks (document 02, Ticket 1).
+#![tactic(auto)]
+
 ghost use Rattle.std.specs.Prelude.{◌≡◌, ◌<◌, length};
 ghost use Rattle.rules.specs.Pci.{values, misplaced, outside};
 ghost use Rattle.command.specs.View.{size_at};

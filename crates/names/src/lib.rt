@@ -1,4 +1,6 @@
 // The tables of text: a row on each line, behind a key of two bytes.
+#![tactic(auto)]
+
 ghost use Rattle.std.specs.Prelude.{◌≡◌, cond, ◌/◌, ◌%◌, ltb};
 ghost use Rattle.text.specs.Text.{digit};
 ghost use Rattle.text.specs.Puts.{Puts, Bounded};

@@ -1,6 +1,8 @@
 // The pairs of a buffer by their numbers: an address and a value each (document 02, Ticket 1).
 //
 // A pair is two words, address first. Pair `at` carries word `at` of a list.
+#![tactic(auto)]
+
 ghost use Rattle.std.specs.Prelude.{◌≡◌, ◌+◌, ◌<◌, ◌≤◌, length, get_or};
 ghost use Rattle.rules.specs.Pci.{address_count, address, values};
 ghost use Rattle.table.specs.Tables.{group_at};

@@ -1,6 +1,8 @@
 // A list as the writes that a host makes over PCI (document 02, Ticket 1).
 //
 // A pair is two words of a buffer, address first. Pair `at` carries word `at` of the list.
+#![tactic(auto)]
+
 ghost use Rattle.std.specs.Prelude.{◌≡◌, ◌+◌, ◌*◌, ◌<◌, ◌≤◌, length};
 ghost use Rattle.std.proofs.lemmas.List.Edits.{sets};
 ghost use Rattle.rules.specs.Form.{read};

@@ -1,4 +1,6 @@
 // A command's pairs that stand at its addresses (document 02, Ticket 1).
+#![tactic(auto)]
+
 ghost use Rattle.std.specs.Prelude.{◌≡◌, ◌&&◌, ◌+◌, ◌-◌, ◌≤◌, leb, length};
 ghost use Rattle.rules.specs.Form.{read};
 ghost use Rattle.rules.specs.Pci.{values};

@@ -1,6 +1,8 @@
 // The reader: the image and the records that an accepted list leaves.
 //
 // The list is checked before, and nothing is checked again.
+#![tactic(auto)]
+
 ghost use Rattle.std.specs.Prelude.{◌≡◌, ◌+◌, ◌≤◌, length};
 ghost use Rattle.std.proofs.lemmas.List.Edits.{sets};
 ghost use Rattle.rules.specs.Image.{apply, final};
@@ -15,7 +17,7 @@ use rules::Answer;
 use table::Settings;
 
 // Where it stands: the position, and the words of the records written so far.
-#[derive(Drop)]
+#[derive(Clone, Copy)]
 pub struct Place {
     pub at: usize,
     pub written: usize,

@@ -16,4 +16,3 @@ pub mod Session
 pub mod Swap
 pub mod Book
 pub mod Cases
-pub mod Lent

@@ -1,6 +1,8 @@
 // A test of what the tool makes. Standard input has cases one behind the other: a task in one byte (0 show, 1 image,
 // 2 normalise, 3 pci, 4 list), the length of a list or of pairs and the length of an image in two bytes each, low first, and
 // their bytes. The text and the words of each go to standard output.
+#![tactic(auto)]
+
 ghost use Rattle.std.specs.Prelude.{◌≡◌, ◌<◌, length};
 
 use desk::Task;

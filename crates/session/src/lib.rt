@@ -1,6 +1,8 @@
 // Several lists in one call, over one image and one record buffer (document 02, Ticket 5).
 //
 // Each list is read by the reader's own call; here its answers are added up.
+#![tactic(auto)]
+
 ghost use Rattle.std.specs.Prelude.{◌≡◌, cond, ◌/◌, ◌≤◌, ◌<◌, length};
 ghost use Rattle.rules.specs.Session.{in_session, no_lists, added, pair_call, with_pair_of, reading_scenes, Bounded};
 ghost use Rattle.rules.specs.Answer.{outcome};

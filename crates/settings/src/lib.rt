@@ -4,6 +4,8 @@
 // A setting's words still stand in the list, so positions say where they are: where each setting was last set (`latest`),
 // and where the command stands that the form last put out for it (`sent`: 0 never, else the position + 1). `changed` has a
 // bit for each setting set; rising bits are rising ids. A word past the end of a buffer is not written.
+#![tactic(auto)]
+
 ghost use Rattle.std.specs.Prelude.{◌≡◌, [], ◌∷◌, ◌+◌, ◌<◌, ◌≤◌, length};
 ghost use Rattle.std.proofs.lemmas.List.Edits.{sets};
 ghost use Rattle.rules.specs.Word.{id_of};

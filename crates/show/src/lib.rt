@@ -1,5 +1,7 @@
 // What a list sets and draws, as text in a lent buffer. Each part goes from position `at` on, and the answer is the
 // position behind it.
+#![tactic(auto)]
+
 ghost use Rattle.std.specs.Prelude.{◌≡◌, ◌+◌, ◌-◌, ◌≤◌, length, get_or};
 ghost use Rattle.rules.specs.Form.{read, equal};
 ghost use Rattle.rules.specs.Answer.{outcome, reading};

@@ -1,5 +1,7 @@
 // What the programs that run stored cases share: digests of what a call gives, filled buffers, words of standard input, and
 // lines of counts.
+#![tactic(auto)]
+
 ghost use Rattle.std.specs.Prelude.{◌≡◌, ◌/◌, ◌%◌, ◌≤◌, length};
 ghost use Rattle.stored.specs.Digest.{mixed, mixed_all, counting};
 

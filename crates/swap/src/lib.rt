@@ -2,6 +2,8 @@
 //
 // In mode 0 the list itself is read. In modes 1 to 3 it is swapped once, into the smallest of three arrays on the stack that
 // holds it, and that is read: nothing below knows of modes.
+#![tactic(auto)]
+
 ghost use Rattle.std.specs.Prelude.{◌≡◌, ◌≤◌, length};
 ghost use Rattle.rules.specs.Values.{refusal};
 ghost use Rattle.rules.specs.Answer.{outcome, refused_answer};

@@ -1,12 +1,14 @@
 // The table of commands: its rows, and the sets of ids.
 //
 // The table of rows is made once for a whole list and lent: a `const` array is built again at each use.
+#![tactic(auto)]
+
 ghost use Rattle.std.specs.Prelude.{◌≡◌, ◌<◌, replicate};
 ghost use Rattle.table.specs.Ids.{in_set, begin_id, kept_id, setting_kind, setting_id, group_id};
 ghost use Rattle.table.specs.Tables.{row_count, row_number, row_table};
 
 // The own words of a command of four words: the header, and the next three words.
-#[derive(Drop)]
+#[derive(Clone, Copy)]
 pub struct Group {
     pub header: u32,
     pub second: u32,
@@ -79,7 +81,7 @@ fn in_set(set: u64, id: u8) -> bool
 }
 
 // The set of the settings' ids, by kind: none of them, one of one word, or one of four.
-#[derive(Drop)]
+#[derive(Clone, Copy)]
 pub struct Settings {}
 
 impl Settings {

@@ -1,5 +1,7 @@
 // Bytes and numbers as text in a lent buffer. Each part goes from position `at` on, and the answer is the position behind
 // it; what does not fit is left out.
+#![tactic(auto)]
+
 ghost use Rattle.std.specs.Prelude.{◌≡◌, [], ◌∷◌, ◌<◌};
 ghost use Rattle.text.specs.Text.{digit, hex, decimal};
 ghost use Rattle.text.specs.Puts.{Puts, Bounded};

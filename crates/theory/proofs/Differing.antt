@@ -6,7 +6,7 @@ use mathlib.Core.Bool.{Bool, true, false, cond}
 use mathlib.Core.Logic.{◌⊎◌, inl, inr}
 use mathlib.Core.List.{List, [], ◌∷◌, ◌++◌}
 use native.Mathlib.Decide.{dec_le, dec_lt}
-use lib.ListN.{length, get_or, set, length-set}
+use lib.ListN.{length, get_or, set, drop, length-set}
 use lib.Seq.{sets, length-sets, ext_get_or, get_or-set_other}
 use Rattle.rules.specs.Table.{Kind, setting, plain, keeps, begins, Row, is_setting, size, settings}
 use Rattle.rules.specs.Command.{Command}
@@ -52,7 +52,8 @@ emit-own c im s v l =
     read_sets im c.row.id (c.header ∷ c.rest) (omega arith) in
     let a = apply-setting c im s.kind in
     let p : get_or (apply c im) c.row.id 0 ≡ c.header = cc in
-    let q : read (apply c im) (suc c.row.id) (length c.row.more) ≡ c.rest = cc in
+    let q : read (apply c im) (suc c.row.id) (length c.row.more) ≡ c.rest =
+    rw (a, sym n) (ap (drop 1) e) in
     ap₂ {C = Command} (λ h ws. record { row = c.row; header = h; rest = ws }) p q
 
 -- the form has built fi, and the list im: they differ in settings only, and a setting that differs was set by a valid command

@@ -1,4 +1,6 @@
 // The tool's arguments and files: all that no contract can speak of. What is made of them is made by the crate `desk`.
+#![tactic(auto)]
+
 mod file;
 mod help;
 
@@ -125,7 +127,7 @@ fn perform(task: Task, count: usize) {
     say(&out[..o], b": not written");
 }
 
-#[derive(Drop)]
+#[derive(Clone, Copy)]
 enum Word {
     Task(Task),
     Show,

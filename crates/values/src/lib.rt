@@ -1,4 +1,6 @@
 // The rules on the values of a command's words, by command: illegal values and clashes.
+#![tactic(auto)]
+
 ghost use Rattle.std.specs.Prelude.{◌≡◌, cond};
 ghost use Rattle.rules.specs.Values.{page_limit};
 ghost use Rattle.values.specs.Broken.{load_broken, primitive_broken, clip_broken, raster_broken};
@@ -7,7 +9,7 @@ use table::Group;
 
 // The rules on values that a command breaks: an illegal value in each of its words, and the number of its first clash, 0
 // where there is none.
-#[derive(Drop)]
+#[derive(Clone, Copy)]
 pub struct Faults {
     pub first: bool,
     pub second: bool,

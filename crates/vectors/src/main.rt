@@ -1,5 +1,7 @@
 // Runs the second program's cases (second/README.md, "The vectors file") through the functions that they are for, and
 // compares a digest of all that these give. A wrong digest, and so a damaged file, shows as a difference.
+#![tactic(auto)]
+
 ghost use Rattle.std.specs.Prelude.{◌<◌, ◌≤◌, length};
 
 use rules::{Answer, SessionAnswer};

@@ -1,4 +1,6 @@
 // The text of a verdict in a lent buffer. Each part goes from position `at` on, and the answer is the position behind it.
+#![tactic(auto)]
+
 ghost use Rattle.std.specs.Prelude.{◌≡◌, ◌<◌, ◌≤◌, length};
 ghost use Rattle.text.specs.Puts.{Puts, Bounded};
 ghost use Rattle.rules.specs.Place.{start_of};
