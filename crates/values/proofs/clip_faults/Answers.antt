@@ -1,0 +1,6 @@
+use Rattle.values.specs.Broken.{clip_broken}
+use Rattle.values.proofs.clip_faults.Goals as goal
+
+pub returns : goal.returns
+unfolding clip_broken
+returns c = rw (c.clash.ensures, c.clash-minimum.ensures, c.page_limit.ensures)
