@@ -2,7 +2,6 @@
 // No code stands here: only the values that the definitions give and the functions above return.
 #![tactic(auto)]
 
-
 // "A bad list is refused with a number and a word position." "With 6, the answer now also gives the number of the lowest
 // undefined bit set in that word; every other verdict gives 32 there."
 #[derive(Clone, Copy)]

@@ -1,5 +1,4 @@
 use Rattle.table.specs.Tables.{row_table}
-
 use Rattle.table.proofs.fill_rows.Goals as goal
 
 -- the one test over the table of rows, computed

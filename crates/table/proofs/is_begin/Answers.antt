@@ -1,5 +1,4 @@
 use Rattle.table.proofs.Tables.{begin_is}
-
 use Rattle.table.proofs.is_begin.Goals as goal
 
 pub returns : goal.returns

@@ -1,7 +1,6 @@
 use native.Mathlib.Omega.{arith}
 use mathlib.Core.Path.{ap, sym, ◌∙◌}
 use Rattle.table.proofs.Tables.{known_group_test, known}
-
 use Rattle.table.proofs.is_known_group.Goals as goal
 
 pub returns : goal.returns

@@ -1,7 +1,6 @@
 use Rattle.rules.specs.Table.{table, row_of}
 use Rattle.table.specs.Ids.{kept_id, kept_ids}
 use Rattle.table.proofs.Tables.{kept-is}
-
 use Rattle.table.proofs.keeps_header.Goals as goal
 
 pub returns : goal.returns

@@ -3,7 +3,6 @@ use mathlib.Core.Path.{ap, ◌∙◌}
 use mathlib.Core.Bool.{not}
 use lib.Dec.{eqb}
 use Rattle.table.proofs.Tables.{setting-is}
-
 use Rattle.table.proofs.Settings.contains.Goals as goal
 
 pub returns : goal.returns

@@ -2,7 +2,6 @@ use mathlib.Core.Path.{sym, ◌∙◌}
 use Rattle.rules.specs.Table.{table, row_of}
 use Rattle.table.specs.Ids.{setting_id, group_id, setting_kind, group_settings}
 use Rattle.table.proofs.Tables.{kind-is}
-
 use Rattle.table.proofs.Settings.kind.Goals as goal
 
 pub returns-then-in_set : goal.returns-then-in_set
