@@ -2,12 +2,12 @@
 use Prim.Native.Nat.{ℕ, zero, suc, ◌+◌, ◌-◌, ◌*◌, ◌≤◌, ◌<◌}
 use native.Mathlib.Omega.{arith}
 use mathlib.Core.Path.{◌≡◌, refl, ap, sym, ◌∙◌}
-use mathlib.Core.Bool.{Bool, true, false, not, ◌&&◌}
+use mathlib.Core.Bool.{Bool, true, false, ◌&&◌}
 use mathlib.Core.List.{List, [], ◌∷◌}
 use lib.Dec.{eqb, leb, ltb}
 use lib.ListN.{drop}
 use lib.Seq.{get_or-drop, drop-drop}
-use borrow.Author.Tests.{ltb-true, leb-true, lt-leb, le-leb, eq-eqb, ne_eqb, not-false}
+use borrow.Author.Tests.{ltb-true, leb-true, lt-leb, le-leb, eq-eqb, ne_eqb}
 use Rattle.theory.proofs.Bools.{and_left, and_right}
 use Rattle.rules.specs.declared.Entry.{Entry}
 use Rattle.rules.specs.Book.{entries, rising, in_place, no_scene, look_up, in_buffer, entry_at}
@@ -137,5 +137,5 @@ module _ (t : List ℕ) (n : ℕ) where
     total-on = ap total next
 
 -- the test of a body that holds, its first part
-pub short : (length : ℕ) (b : Bool) → not (leb length 4096 && b) ≡ false → length ≤ 4096
-short length b e = leb-true length 4096 (and_left (leb length 4096) b (not-false (leb length 4096 && b) e))
+pub short : (length : ℕ) (b : Bool) → (leb length 4096 && b) ≡ true → length ≤ 4096
+short length b e = leb-true length 4096 (and_left (leb length 4096) b e)
