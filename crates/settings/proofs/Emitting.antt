@@ -206,6 +206,9 @@ module _ (l image₀ built image start latest : List ℕ) (changed : ℕ) where
       append_assoc so_far (put rs) (put qs)
       ∙ ap (λ (x : List ℕ). so_far ++ x) (sym (ap words_all (differing_append rs qs built image) ∙ words_all_append (differing rs built image) (differing qs built image)))
 
+  chosen_sent : (b b' : Bool) (r : Row) (before : ℕ) → b ≡ b' → Sent l image₀ (cond b' image built) r before → Sent l image₀ (cond b image built) r before
+  chosen_sent b b' r before e h = subst (λ (t : Bool). Sent l image₀ (cond t image built) r before) (sym e) h
+
   -- one number on: the others keep their places
   next-sent : (k : ℕ) (sent sent' : List ℕ) → ((j : ℕ) → (j ≡ k → ⊥) → get_or sent' j 0 ≡ get_or sent j 0)
       → ((r : Row) → setting_of k ≡ some r → Sent l image₀ image r (get_or sent' k 0))
@@ -213,16 +216,17 @@ module _ (l image₀ built image start latest : List ℕ) (changed : ℕ) where
       → (j : ℕ) (r : Row) → setting_of j ≡ some r → Sent l image₀ (cond (ltb j (suc k)) image built) r (get_or sent' j 0)
   next-sent k sent sent' keep new old j r e =
       elim (ℕ_discrete j k) [
-        | yes q ↦ rw (q, lt-ltb k (suc k) (omega arith)) (new r (ap setting_of (sym q) ∙ e))
-        | no q ↦ elim (dec_lt j k) [
-          | yes p ↦ rw (lt-ltb j (suc k) (omega arith), keep j q) (rw (lt-ltb j k p) at (old j r e))
-          | no p ↦ rw (le-ltb j (suc k) (omega arith), keep j q) (rw (le-ltb j k (omega arith)) at (old j r e))
-        ]
+        | yes q ↦ subst (λ (i : ℕ). Sent l image₀ (cond (ltb i (suc k)) image built) r (get_or sent' i 0)) (sym q)
+            (chosen_sent (ltb k (suc k)) true r (get_or sent' k 0) (lt-ltb k (suc k) (omega arith)) (new r (ap setting_of (sym q) ∙ e)))
+        | no q ↦ subst (λ (t : ℕ). Sent l image₀ (cond (ltb j (suc k)) image built) r t) (sym (keep j q)) (elim (dec_lt j k) [
+          | yes p ↦ chosen_sent (ltb j (suc k)) (ltb j k) r (get_or sent j 0) (lt-ltb j (suc k) (omega arith) ∙ sym (lt-ltb j k p)) (old j r e)
+          | no p ↦ chosen_sent (ltb j (suc k)) (ltb j k) r (get_or sent j 0) (le-ltb j (suc k) (omega arith) ∙ sym (le-ltb j k (omega arith))) (old j r e)
+        ])
       ]
 
   module _ (k : ℕ) (so_far : List ℕ) (o : Output) (p : At k so_far o) where
     here : (r : Row) → setting_of k ≡ some r → Sent l image₀ built r (get_or o.sent k 0)
-    here r e = rw (le-ltb k k (omega arith)) at (p.sent_is k r e)
+    here r e = chosen_sent false (ltb k k) r (get_or o.sent k 0) (sym (le-ltb k k (omega arith))) (p.sent_is k r e)
 
     -- nothing put out
     kept : (rs : List Row) → differing rs built image ≡ [] → ((r : Row) → setting_of k ≡ some r → read built r.id (size r) ≡ read image r.id (size r))
@@ -336,12 +340,12 @@ module _ (l image₀ built image start latest : List ℕ) (changed : ℕ) where
       put_append so_far (settings_from 16 0) (settings_from 64 16) ∙ ap (λ (x : List Row). so_far ++ put x) (sym settings_by_number) in
       let x : numbers 16 0 (changed / 1) ≡ numbers 64 0 (changed % 65536) =
       let z : changed / 1 ≡ changed = omega arith in ap (numbers 16 0) z ∙ sym (numbers_low 48 16 0 changed) in
-      let p₀ : At 0 so_far o = record { long = p.long; written_is = p.written_is; out-is = p.out-is; sent_is = λ k r f. rw (le-ltb k 0 (omega arith)) (p.sent_is k r f) } in
+      let p₀ : At 0 so_far o = record { long = p.long; written_is = p.written_is; out-is = p.out-is; sent_is = λ k r f. chosen_sent (ltb k 0) false r (get_or o.sent k 0) (le-ltb k 0 (omega arith)) (p.sent_is k r f) } in
       let a = run few whole is 0 16 0 so_far o (λ j r b c f. (setting_of_lem j r f).more ∙ rw (lt-ltb j 16 (omega arith))) p₀
       (omega (arith, ap length e, length-append (so_far ++ put (settings_from 16 0)) (put (settings_from 64 16)))) in
       let b = run few whole is 3 64 16 (so_far ++ put (settings_from 16 0)) (emit_all 0 l image₀ latest (numbers 16 0 (changed / 1)) o)
       (λ j r b c f. (setting_of_lem j r f).more ∙ rw (le-ltb j 16 (omega arith))) a.0 (rw e enough) in
       let q = rw (x, e) at b.0 in (
-        record { long = q.long; written_is = q.written_is; out-is = q.out-is; sent_is = λ k r f. rw (lt-ltb k 80 (omega (arith, (setting_of_lem k r f).small))) at (q.sent_is k r f) },
+        record { long = q.long; written_is = q.written_is; out-is = q.out-is; sent_is = λ k r f. chosen_sent true (ltb k 80) r (get_or (emit_changed changed l image₀ latest o).sent k 0) (sym (lt-ltb k 80 (omega (arith, (setting_of_lem k r f).small)))) (q.sent_is k r f) },
         record { singles = rw x at a.1; groups = rw x at b.1 },
       )
