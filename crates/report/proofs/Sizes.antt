@@ -10,7 +10,7 @@ use Rattle.rules.specs.declared.Answer.{Answer}
 use Rattle.rules.specs.declared.Refusal.{Refusal}
 use Rattle.rules.specs.Values.{refusal}
 use Rattle.rules.specs.Table.{is_setting}
-use Rattle.rules.specs.Command.{Command, words, words_all}
+use Rattle.rules.specs.Command.{Command, words_all}
 use Rattle.rules.specs.Walk.{accepted, parse}
 use Rattle.rules.specs.Image.{final}
 use Rattle.rules.specs.Records.{Record, records, record_words}
