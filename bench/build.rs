@@ -27,7 +27,7 @@ fn link(folder: &Path, library: &str) {
 
 fn main() {
     let folder = |name: &str| env::var_os(name).map(PathBuf::from);
-    let host = folder("HOST_LIB").unwrap_or_else(|| folder("CARGO_MANIFEST_DIR").unwrap().join("../target/staticlib"));
+    let host = folder("HOST_LIB").unwrap_or_else(|| folder("CARGO_MANIFEST_DIR").unwrap().join("../crates/host/out"));
     link(&host, "host");
     println!("cargo:rerun-if-changed={}", host.join("libhost.a").display());
     println!("cargo:rerun-if-env-changed=HOST_LIB");

@@ -8,7 +8,7 @@ fn main() {
         return;
     }
     let here = env::var("CARGO_MANIFEST_DIR").expect("cargo sets CARGO_MANIFEST_DIR");
-    let folder = format!("{here}/../target/staticlib");
+    let folder = format!("{here}/../crates/host/out");
     println!("cargo:rerun-if-changed={folder}/libhost.a");
     println!("cargo:rustc-link-search=native={folder}");
     println!("cargo:rustc-link-lib=static=host");

@@ -1,7 +1,7 @@
 /*
  * XP10 command lists: the reader, of one list and of several in one call, the normaliser and the room that it needs, PCI
  * writes from a list and back, and books of scenes, proved in Rattle (crates/host).
- * Link with target/staticlib/libhost.a, which `rt staticlib host` makes.
+ * Link with crates/host/out/libhost.a, which `rt lib` makes in crates/host.
  *
  * Each slice is a pointer and a number of 32-bit words. No pointer is null, also with no words, and a slice that is
  * written overlaps no other.
