@@ -1,5 +1,5 @@
 -- What the functions that make something promise.
-use Rattle.std.specs.Prelude.{ℕ, ◌+◌, ◌≤◌, ◌≡◌, List, ◌++◌, length}
+use Rattle.std.specs.Prelude.{ℕ, ◌≤◌, ◌≡◌, List, ◌++◌, length}
 use Rattle.std.proofs.lemmas.List.Edits.{sets}
 use Rattle.desk.specs.declared.Sizes.{Sizes}
 use Rattle.desk.specs.Desk.{Made}
