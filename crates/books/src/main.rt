@@ -22,7 +22,7 @@ const TALLY: usize = CASES + 2;
 
 fn add(tally: &mut [u32; TALLY], i: usize) {
     if i < TALLY {
-        tally[i] = std::num::wrapping_add_u32(tally[i], 1);
+        tally[i] = tally[i].wrapping_add(1);
     }
 }
 
@@ -77,19 +77,20 @@ fn run_case(
 
 // The next case; false where there is none.
 fn next_case(
+    rt: HostRuntime,
     words: &mut [u32],
     arguments: &mut [u32],
     buffer: &mut [u32],
     tally: &mut [u32; TALLY],
 ) -> bool {
     let mut front = [0u32; FRONT];
-    if next_words(&mut front) < FRONT {
+    if next_words(rt, &mut front) < FRONT {
         return false;
     }
     let n = least(words::wide(front[1]), words.len());
-    next_words(&mut words[..n]);
+    next_words(rt, &mut words[..n]);
     let m = least(words::wide(front[2]), arguments.len());
-    next_words(&mut arguments[..m]);
+    next_words(rt, &mut arguments[..m]);
     let digest = run_case(&front, &words[..n], &arguments[..m], buffer, tally);
     add(tally, CASES);
     if digest != front[4] {
@@ -99,35 +100,37 @@ fn next_case(
 }
 
 // A file may have 65,536 cases.
-fn all(words: &mut [u32], arguments: &mut [u32], buffer: &mut [u32], tally: &mut [u32; TALLY]) {
-    let mut i: usize = 0;
-    while i < 65536 {
-        if !next_case(words, arguments, buffer, tally) {
+fn all(
+    rt: HostRuntime,
+    words: &mut [u32],
+    arguments: &mut [u32],
+    buffer: &mut [u32],
+    tally: &mut [u32; TALLY],
+) {
+    for _ in 0..65536 {
+        if !next_case(rt, words, arguments, buffer, tally) {
             return;
         }
-        i += 1;
     }
 }
 
-fn print(tally: &[u32; TALLY]) {
-    print_line(b"books ", tally[CASES]);
-    print_line(b"differences ", tally[DIFFERENCES]);
-    io::write_all(1, b"verdict find_scene write_book\n");
-    let mut v = 0;
-    while v < VERDICTS {
-        io::print_decimal(1, v as u64);
-        print_column(tally[v]);
-        print_column(tally[VERDICTS + v]);
-        io::write_all(1, b"\n");
-        v += 1;
+fn print(rt: HostRuntime, tally: &[u32; TALLY]) {
+    print_line(rt, b"books ", tally[CASES]);
+    print_line(rt, b"differences ", tally[DIFFERENCES]);
+    let _ = rt.write_all(b"verdict find_scene write_book\n");
+    for v in 0..VERDICTS {
+        let _ = rt.print(v);
+        print_column(rt, tally[v]);
+        print_column(rt, tally[VERDICTS + v]);
+        let _ = rt.write_all(b"\n");
     }
 }
 
-fn main() {
+fn main(rt: HostRuntime) {
     let mut words = [0u32; 8200];
     let mut arguments = [0u32; 1600];
     let mut buffer = [0u32; 9000];
     let mut tally = [0u32; TALLY];
-    all(&mut words, &mut arguments, &mut buffer, &mut tally);
-    print(&tally);
+    all(rt, &mut words, &mut arguments, &mut buffer, &mut tally);
+    print(rt, &tally);
 }
