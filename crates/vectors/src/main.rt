@@ -60,17 +60,15 @@ fn xorshift(seed: u32) -> u32 {
 // Seed 0 gives zeros.
 fn fill_image(image: &mut [u32], seed: u32) {
     let mut x = seed;
-    let mut i = 0;
-    while i < image.len() {
+    for word in image.iter_mut() {
         x = xorshift(x);
-        image[i] = x;
-        i += 1;
+        *word = x;
     }
 }
 
 fn add(tally: &mut [u32; TALLY], i: usize) {
     if i < TALLY {
-        tally[i] = std::num::wrapping_add_u32(tally[i], 1);
+        tally[i] = tally[i].wrapping_add(1);
     }
 }
 
@@ -178,13 +176,11 @@ fn run_list(
     requires { (end ≤ 5) × (9 ≤ length front.now) }
 {
     let mut digest = DIGEST;
-    let mut k = READER;
-    while k < end {
+    for k in READER..end {
         let room = least(5 + k, 7);
         digest = run_function(
             k, front, room, words, arguments, image, buffer, digest, tally,
         );
-        k += 1;
     }
     digest
 }
@@ -214,34 +210,28 @@ fn run_case(
 // ---- the program
 
 // The count of a verdict from each function.
-fn print_row(tally: &[u32; TALLY], verdict: usize)
+fn print_row(rt: HostRuntime, tally: &[u32; TALLY], verdict: usize)
     requires { verdict < 33 }
 {
-    io::print_decimal(1, verdict as u64);
-    let mut f = 0;
-    while f < FUNCTIONS {
-        print_column(tally[f * VERDICTS + verdict]);
-        f += 1;
+    let _ = rt.print(verdict);
+    for f in 0..FUNCTIONS {
+        print_column(rt, tally[f * VERDICTS + verdict]);
     }
-    io::write_all(1, b"\n");
+    let _ = rt.write_all(b"\n");
 }
 
-fn print(tally: &[u32; TALLY]) {
-    print_line(b"vectors ", tally[CASES]);
-    print_line(b"differences ", tally[DIFFERENCES]);
-    io::write_all(
-        1,
-        b"verdict reader normaliser to_pci from_pci measure read_scenes\n",
-    );
-    let mut v = 0;
-    while v < VERDICTS {
-        print_row(tally, v);
-        v += 1;
+fn print(rt: HostRuntime, tally: &[u32; TALLY]) {
+    print_line(rt, b"vectors ", tally[CASES]);
+    print_line(rt, b"differences ", tally[DIFFERENCES]);
+    let _ = rt.write_all(b"verdict reader normaliser to_pci from_pci measure read_scenes\n");
+    for v in 0..VERDICTS {
+        print_row(rt, tally, v);
     }
 }
 
 // The next case; false where there is none.
 fn next_case(
+    rt: HostRuntime,
     words: &mut [u32],
     arguments: &mut [u32],
     image: &mut [u32],
@@ -249,13 +239,13 @@ fn next_case(
     tally: &mut [u32; TALLY],
 ) -> bool {
     let mut front = [0u32; FRONT];
-    if next_words(&mut front) < FRONT {
+    if next_words(rt, &mut front) < FRONT {
         return false;
     }
     let n = least(words::wide(front[1]), words.len());
-    next_words(&mut words[..n]);
+    next_words(rt, &mut words[..n]);
     let m = least(words::wide(front[2]), arguments.len());
-    next_words(&mut arguments[..m]);
+    next_words(rt, &mut arguments[..m]);
     let digest = run_case(&front, &words[..n], &arguments[..m], image, buffer, tally);
     add(tally, CASES);
     if digest != front[8] {
@@ -266,33 +256,33 @@ fn next_case(
 
 // A file may have 65,536 cases.
 fn all(
+    rt: HostRuntime,
     words: &mut [u32],
     arguments: &mut [u32],
     image: &mut [u32],
     buffer: &mut [u32],
     tally: &mut [u32; TALLY],
 ) {
-    let mut i: usize = 0;
-    while i < 65536 {
-        if !next_case(words, arguments, image, buffer, tally) {
+    for _ in 0..65536 {
+        if !next_case(rt, words, arguments, image, buffer, tally) {
             return;
         }
-        i += 1;
     }
 }
 
-fn main() {
+fn main(rt: HostRuntime) {
     let mut words = [0u32; 8200];
     let mut arguments = [0u32; 8200];
     let mut image = [0u32; 300];
     let mut buffer = [0u32; 8200];
     let mut tally = [0u32; TALLY];
     all(
+        rt,
         &mut words,
         &mut arguments,
         &mut image,
         &mut buffer,
         &mut tally,
     );
-    print(&tally);
+    print(rt, &tally);
 }
