@@ -4,39 +4,31 @@
 
 ghost use Rattle.std.specs.Prelude.{◌≤◌, length};
 
-use libc::{STDIN_FILENO, STDOUT_FILENO};
+use streams::{fail, read_full};
 
 // Reads standard input until the buffer is full, the input ends or a read fails, and answers how many bytes it put in
 // front.
-fn read_input(buffer: &mut [u8]) -> usize
+fn read_input(rt: HostRuntime, buffer: &mut [u8]) -> usize
     ensures { result ≤ length buffer.new }
 {
-    let mut n = 0;
-    while n < buffer.len() {
-        let got = libc::read(STDIN_FILENO, &mut buffer[n..]);
-        if got < 0 {
-            os::fail(b"listing: standard input");
-        }
-        let more = io::count(got, &buffer[n..]);
-        if more == 0 {
-            return n;
-        }
-        n += more;
+    let (n, done) = read_full(&mut rt.stdin(), buffer);
+    if let Err(e) = done {
+        fail(rt, b"listing: standard input", e);
     }
     n
 }
 
-fn main() {
+fn main(rt: HostRuntime) {
     // One byte more than a list can have.
     let mut input = [0u8; 16385];
-    let n = read_input(&mut input);
+    let n = read_input(rt, &mut input);
     let mut words = [0u32; 4096];
     let mut image = [0u32; 256];
     let mut records = [0u32; 16384];
     // No listing is longer.
     let mut text = [0u8; 82003];
     let size = report::listing(&input[..n], &mut words, &mut image, &mut records, &mut text);
-    if !io::write_all(STDOUT_FILENO, &text[..size]) {
-        os::fail(b"listing: standard output");
+    if let Err(e) = rt.write_all(&text[..size]) {
+        fail(rt, b"listing: standard output", e);
     }
 }
