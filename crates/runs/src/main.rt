@@ -6,7 +6,6 @@
 ghost use Rattle.std.specs.Prelude.{◌≡◌, ◌<◌, length};
 
 use desk::Task;
-use libc::{STDIN_FILENO, STDOUT_FILENO};
 
 fn task_of(number: u8) -> Task {
     match number {
@@ -18,14 +17,12 @@ fn task_of(number: u8) -> Task {
     }
 }
 
-fn run_one(task: Task, input: &[u8], image: &[u8]) {
+fn run_one(rt: HostRuntime, task: Task, input: &[u8], image: &[u8]) {
     let mut text = desk::text_buffer();
     let mut bytes = desk::word_buffer();
     let made = desk::run(task, input, image, &mut text, &mut bytes);
-    let whole = made.text;
-    let size = made.out;
-    io::write_all(STDOUT_FILENO, &text[..whole]);
-    io::write_all(STDOUT_FILENO, &bytes[..size]);
+    let _ = rt.write_all(&text[..made.text]);
+    let _ = rt.write_all(&bytes[..made.out]);
 }
 
 fn length_of(low: u8, high: u8) -> usize
@@ -34,7 +31,7 @@ fn length_of(low: u8, high: u8) -> usize
     (low as usize) + (high as usize) * 256
 }
 
-fn run_all(cases: &[u8]) {
+fn run_all(rt: HostRuntime, cases: &[u8]) {
     let mut at = 0;
     while 5 <= cases.len() - at {
         let start = at + 5;
@@ -46,6 +43,7 @@ fn run_all(cases: &[u8]) {
         let middle = start + n;
         let end = middle + m;
         run_one(
+            rt,
             task_of(cases[at]),
             &cases[start..middle],
             &cases[middle..end],
@@ -61,8 +59,8 @@ fn case_buffer() -> [u8; 400000]
     [0; 400000]
 }
 
-fn main() {
+fn main(rt: HostRuntime) {
     let mut cases = case_buffer();
-    let n = io::read_full(STDIN_FILENO, &mut cases);
-    run_all(&cases[..n]);
+    let (n, _) = streams::read_full(&mut rt.stdin(), &mut cases);
+    run_all(rt, &cases[..n]);
 }
