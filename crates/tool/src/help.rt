@@ -1,12 +1,9 @@
 // The tool's words, and the refusals.
 use crate::file::fail;
-use libc::STDOUT_FILENO;
+use std::io;
 
-pub fn help() {
-    let refusals = names::refusals();
-    let is_written = io::write_all(
-        STDOUT_FILENO,
-        b"xp10 reads the command lists of Volari XP10 boards before the board does.
+const WORDS: &[u8; 1182] =
+    b"xp10 reads the command lists of Volari XP10 boards before the board does.
 
 xp10 show LIST [IMAGE]           the verdict; what the list sets and draws; its words, and those of its normal form
 xp10 image LIST IMAGE OUT        the image after the list
@@ -24,9 +21,16 @@ alone go to standard output, and the verdict to standard error. What fails is sa
 A refusal tells its number, the position of a word, the word, the command that it stands in, and why. Positions count words
 from 0; of PCI writes they count pairs.
 
-",
-    );
-    if !(is_written && io::write_all(STDOUT_FILENO, &refusals)) {
-        fail(b"standard output");
+";
+
+// The words, and then the refusals.
+fn print(rt: HostRuntime) -> io::Result<()> {
+    rt.write_all(WORDS)?;
+    rt.write_all(&names::refusals())
+}
+
+pub fn help(rt: HostRuntime) {
+    if let Err(e) = print(rt) {
+        fail(rt, b"standard output", e);
     }
 }

@@ -4,127 +4,142 @@
 mod file;
 mod help;
 
-ghost use Rattle.std.specs.Prelude.{◌≤◌, length};
-ghost use Rattle.io.specs.Counts.{IsPrefixLen};
+ghost use Rattle.std.specs.Prelude.{◌≤◌, IfSome, length};
 
 use desk::Task;
-use file::{fail, is, say};
-use libc::{STDERR_FILENO, STDOUT_FILENO};
+use file::{fail, is, put_error, say};
+use std::env::{Env, FillError};
 
 // ---- a task
 
-fn tell(fd: i32, text: &[u8]) {
-    if !io::write_all(fd, text) {
-        fail(b"standard output");
+#[derive(Clone, Copy)]
+enum Stream {
+    Output,
+    Error,
+}
+
+fn tell(rt: HostRuntime, to: Stream, text: &[u8]) {
+    let told = match to {
+        Stream::Output => rt.stdout().write_all(text),
+        Stream::Error => rt.stderr().write_all(text),
+    };
+    if let Err(e) = told {
+        fail(rt, b"standard output", e);
     }
 }
 
 // Where the text goes: to standard error where the words go to standard output.
-fn channel(out: &[u8]) -> i32 {
+fn channel(out: &[u8]) -> Stream {
     if is(out, b"-") {
-        return STDERR_FILENO;
+        return Stream::Error;
     }
-    STDOUT_FILENO
+    Stream::Output
 }
 
-fn write(out: &[u8], bytes: &[u8]) -> bool {
+fn write(rt: HostRuntime, out: &[u8], bytes: &[u8]) -> bool {
     if !is(out, b"-") {
-        return file::save(out, bytes);
+        return file::save(rt, out, bytes);
     }
-    let is_written = io::write_all(STDOUT_FILENO, bytes);
-    if !is_written {
-        fail(b"standard output");
+    match rt.write_all(bytes) {
+        Ok(()) => true,
+        Err(e) => {
+            fail(rt, b"standard output", e);
+            false
+        }
     }
-    is_written
 }
 
 // Puts the words where they belong, if there are any, and tells the verdict, and that they were written. It answers
 // whether they were.
-fn put(out: &[u8], writes: bool, text: &[u8], verdict: usize, bytes: &[u8]) -> bool
+fn put(rt: HostRuntime, out: &[u8], writes: bool, text: &[u8], verdict: usize, bytes: &[u8]) -> bool
     requires { verdict ≤ length text.now }
 {
     if !writes {
-        tell(channel(out), text);
+        tell(rt, channel(out), text);
         return false;
     }
-    if !write(out, bytes) {
-        tell(channel(out), &text[..verdict]);
+    if !write(rt, out, bytes) {
+        tell(rt, channel(out), &text[..verdict]);
         return false;
     }
-    tell(channel(out), text);
+    tell(rt, channel(out), text);
     true
 }
 
 // The image first: where it cannot be read, no list is.
-fn make(task: Task, list: &[u8], image: &[u8], out: &[u8]) -> bool {
+fn make(rt: HostRuntime, task: Task, list: &[u8], image: &[u8], out: &[u8]) -> bool {
     if is(list, b"-") && is(image, b"-") {
-        say(b"standard input", b" can be read only once");
+        say(rt, b"standard input", b" can be read only once");
         return false;
     }
-    let mut registers = io::large_buffer();
-    let m = file::read_image(image, &mut registers);
-    if registers.len() < m {
+    let mut registers = [0u8; 65536];
+    let Some(m) = file::read_image(rt, image, &mut registers) else {
         return false;
-    }
-    let mut input = io::large_buffer();
+    };
+    let mut input = [0u8; 65536];
     // one byte more than is taken
-    let n = file::read(list, &mut input, desk::most(task) + 1);
-    if input.len() < n {
+    let Some(n) = file::read(rt, list, &mut input, desk::most(task) + 1) else {
         return false;
-    }
+    };
     let mut text = desk::text_buffer();
     let mut bytes = desk::word_buffer();
     let made = desk::run(task, &input[..n], &registers[..m], &mut text, &mut bytes);
-    let verdict = made.verdict;
-    let whole = made.text;
-    let size = made.out;
-    put(out, made.writes, &text[..whole], verdict, &bytes[..size])
+    put(
+        rt,
+        out,
+        made.writes,
+        &text[..made.text],
+        made.verdict,
+        &bytes[..made.out],
+    )
 }
 
 // ---- arguments
 
-// Whether the last argument that was asked for is there whole.
-fn whole() -> bool {
-    if os::errno() != 0 {
-        fail(b"argument");
-        return false;
+// An argument, at the front of a buffer, and its length: 0 where it is left out. One that is not whole there is told.
+fn argument(rt: HostRuntime, i: usize, buffer: &mut [u8]) -> Option<usize>
+    ensures { IfSome result (λ n. n ≤ length buffer.new) }
+{
+    match rt.arg(i, buffer) {
+        Ok(n) => Some(n),
+        Err(FillError::NotPresent) => Some(0),
+        Err(FillError::TooLong) => {
+            say(rt, b"argument", b": File name too long");
+            None
+        }
     }
-    true
 }
 
 // The name of the image; `zero` where it is left out.
-fn image_name(count: usize, buffer: &mut [u8]) -> usize
+fn image_name(rt: HostRuntime, count: usize, buffer: &mut [u8]) -> Option<usize>
     requires { 4 ≤ length buffer.old }
-    ensures { IsPrefixLen result buffer.new }
+    ensures { IfSome result (λ n. n ≤ length buffer.new) }
 {
     if 3 < count {
-        return os::arg(3, buffer);
+        return argument(rt, 3, buffer);
     }
-    text::put_all(buffer, 0, b"zero")
+    Some(text::put_all(buffer, 0, b"zero"))
 }
 
 // A task with the names of its list, of its image, and of where the words go, which `show` has not.
-fn perform(task: Task, count: usize) {
-    let mut list = io::buffer();
-    let l = os::arg(2, &mut list);
-    if !whole() {
+fn perform(rt: HostRuntime, task: Task, count: usize) {
+    let mut list = [0u8; 4096];
+    let Some(l) = argument(rt, 2, &mut list) else {
         return;
-    }
-    let mut image = io::buffer();
-    let i = image_name(count, &mut image);
-    if (3 < count) && !whole() {
+    };
+    let mut image = [0u8; 4096];
+    let Some(i) = image_name(rt, count, &mut image) else {
         return;
-    }
-    let mut out = io::buffer();
-    let o = os::arg(4, &mut out);
-    if (4 < count) && !whole() {
+    };
+    let mut out = [0u8; 4096];
+    let Some(o) = argument(rt, 4, &mut out) else {
         return;
-    }
-    let is_done = make(task, &list[..l], &image[..i], &out[..o]);
+    };
+    let is_done = make(rt, task, &list[..l], &image[..i], &out[..o]);
     if (is_done | (count < 5)) | is(&out[..o], b"-") {
         return;
     }
-    say(&out[..o], b": not written");
+    say(rt, &out[..o], b": not written");
 }
 
 #[derive(Clone, Copy)]
@@ -136,77 +151,76 @@ enum Word {
 }
 
 fn word_of(word: &[u8]) -> Word {
-    if is(word, b"show") {
-        return Word::Show;
+    match word {
+        b"show" => Word::Show,
+        b"image" => Word::Task(Task::Image),
+        b"normalise" => Word::Task(Task::Normalise),
+        b"pci" => Word::Task(Task::Pci),
+        b"list" => Word::Task(Task::List),
+        b"help" => Word::Help,
+        _ => Word::Unknown,
     }
-    if is(word, b"image") {
-        return Word::Task(Task::Image);
-    }
-    if is(word, b"normalise") {
-        return Word::Task(Task::Normalise);
-    }
-    if is(word, b"pci") {
-        return Word::Task(Task::Pci);
-    }
-    if is(word, b"list") {
-        return Word::Task(Task::List);
-    }
-    if is(word, b"help") {
-        return Word::Help;
-    }
-    Word::Unknown
 }
 
 // Whether there are as many arguments as a word takes.
-fn counted(count: usize, least: usize, most: usize) -> bool {
+fn counted(rt: HostRuntime, count: usize, least: usize, most: usize) -> bool {
     if count < least {
-        say(b"too few arguments", b", see xp10 help");
+        say(rt, b"too few arguments", b", see xp10 help");
         return false;
     }
     if most < count {
-        say(b"too many arguments", b", see xp10 help");
+        say(rt, b"too many arguments", b", see xp10 help");
         return false;
     }
     true
 }
 
-fn dispatch(word: Word, count: usize) {
+fn dispatch(rt: HostRuntime, word: Word, count: usize) {
     match word {
         Word::Show => {
-            if counted(count, 3, 4) {
-                perform(Task::Show, count);
+            if counted(rt, count, 3, 4) {
+                perform(rt, Task::Show, count);
             }
         }
         Word::Task(task) => {
-            if counted(count, 5, 5) {
-                perform(task, count);
+            if counted(rt, count, 5, 5) {
+                perform(rt, task, count);
             }
         }
         Word::Help => {
-            if counted(count, 2, 2) {
-                help::help();
+            if counted(rt, count, 2, 2) {
+                help::help(rt);
             }
         }
         Word::Unknown => {}
     }
 }
 
-pub fn run() {
-    let count = os::arg_count();
-    if !counted(count, 2, 5) {
+// The number of arguments, the program's name among them; 6 where there are more.
+fn argument_count(rt: HostRuntime) -> usize {
+    for i in 0..6 {
+        if let Err(FillError::NotPresent) = rt.arg(i, &mut []) {
+            return i;
+        }
+    }
+    6
+}
+
+pub fn run(rt: HostRuntime) {
+    let count = argument_count(rt);
+    if !counted(rt, count, 2, 5) {
         return;
     }
-    let mut name = io::buffer();
-    let n = os::arg(1, &mut name);
-    if !whole() {
+    let mut name = [0u8; 4096];
+    let Some(n) = argument(rt, 1, &mut name) else {
         return;
-    }
+    };
     let word = word_of(&name[..n]);
     if let Word::Unknown = word {
-        io::write_all(STDERR_FILENO, b"xp10: unknown word ");
-        io::write_all(STDERR_FILENO, &name[..n]);
-        io::write_all(STDERR_FILENO, b", see xp10 help\n");
+        put_error(rt, b"xp10: unknown word ");
+        put_error(rt, &name[..n]);
+        put_error(rt, b", see xp10 help\n");
         return;
     }
-    dispatch(word, count);
+    dispatch(rt, word, count);
 }

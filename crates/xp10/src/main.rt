@@ -1,6 +1,6 @@
 // The tool: what a command list does, its normal form, its PCI writes.
 #![tactic(auto)]
 
-fn main() {
-    tool::run();
+fn main(rt: HostRuntime) {
+    tool::run(rt);
 }
