@@ -1,5 +1,6 @@
 // Files by name, and lines on standard error.
-ghost use Rattle.std.specs.Prelude.{◌<◌, ◌≤◌, IfSome, length};
+ghost use Rattle.std.specs.Prelude.{◌≡◌, ◌<◌, ◌≤◌, ◌↔◌, IsTrue, IfSome, length, codes};
+ghost use Rattle.std.specs.Io.{StartsWith};
 
 use std::fs::{File, OpenOptions};
 use std::io::{Read, Write};
@@ -30,11 +31,15 @@ pub fn fail(rt: HostRuntime, name: &[u8], e: io::Error) {
 
 // ---- names
 
-pub fn begins(name: &[u8], with: &[u8]) -> bool {
+pub fn begins(name: &[u8], with: &[u8]) -> bool
+    ensures { IsTrue result ↔ StartsWith name.now with.now }
+{
     name.starts_with(with)
 }
 
-pub fn is(name: &[u8], other: &[u8]) -> bool {
+pub fn is(name: &[u8], other: &[u8]) -> bool
+    ensures { IsTrue result ↔ (name.now ≡ other.now) }
+{
     name == other
 }
 
@@ -95,7 +100,8 @@ pub fn read(rt: HostRuntime, name: &[u8], buffer: &mut [u8], most: usize) -> Opt
 
 // The same; `zero` is an image of zeros, which the buffer has.
 pub fn read_image(rt: HostRuntime, name: &[u8], buffer: &mut [u8; 65536]) -> Option<usize>
-    ensures { IfSome result (λ n. n ≤ 65536) }
+    ensures within { IfSome result (λ n. n ≤ 65536) }
+    ensures zero { name.now ≡ codes "zero" → result ≡ Some 1024 }
 {
     if is(name, b"zero") {
         return Some(1024);

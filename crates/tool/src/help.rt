@@ -2,8 +2,7 @@
 use crate::file::fail;
 use std::io;
 
-const WORDS: &[u8; 1182] =
-    b"xp10 reads the command lists of Volari XP10 boards before the board does.
+const WORDS: &str = "xp10 reads the command lists of Volari XP10 boards before the board does.
 
 xp10 show LIST [IMAGE]           the verdict; what the list sets and draws; its words, and those of its normal form
 xp10 image LIST IMAGE OUT        the image after the list
@@ -25,7 +24,7 @@ from 0; of PCI writes they count pairs.
 
 // The words, and then the refusals.
 fn print(rt: HostRuntime) -> io::Result<()> {
-    rt.write_all(WORDS)?;
+    rt.write_all(WORDS.as_bytes())?;
     rt.write_all(&names::refusals())
 }
 
