@@ -99,14 +99,15 @@ pub fn read(rt: HostRuntime, name: &[u8], buffer: &mut [u8], most: usize) -> Opt
 }
 
 // The same; `zero` is an image of zeros, which the buffer has.
-pub fn read_image(rt: HostRuntime, name: &[u8], buffer: &mut [u8; 65536]) -> Option<usize>
-    ensures within { IfSome result (λ n. n ≤ 65536) }
+pub fn read_image(rt: HostRuntime, name: &[u8], buffer: &mut [u8]) -> Option<usize>
+    ensures within { IfSome result (λ n. 1024 ≤ length buffer.old → n ≤ length buffer.old) }
     ensures zero { name.now ≡ codes "zero" → result ≡ Some 1024 }
 {
     if is(name, b"zero") {
         return Some(1024);
     }
-    read(rt, name, buffer, 65536)
+    let most = buffer.len();
+    read(rt, name, buffer, most)
 }
 
 // ---- writing
