@@ -19,6 +19,8 @@ IMPORT = re.compile(r"^use (?!Rattle\.(?!std\b|core\b))[^{\n]*\{([^}]*)\}", re.M
 FUNCTION = re.compile(r"\bfn (\w+)")
 # lemmas whose names a definition takes
 TAKEN = ["mask_at", "in_place", "of_row", "put_one"]
+# a variable that port.py took for a constructor
+MISTAKEN = {"None-found": "none_found"}
 LIBRARY = "/opt/rattle/rattle/std"
 
 
@@ -46,7 +48,7 @@ def spelled(name):
 
 def names(root):
     """old name -> new name"""
-    declared, defined, foreign, seen, functions = set(), set(), set(), set(), set()
+    declared, specified, defined, foreign, seen, functions = set(), set(), set(), set(), set(), set()
     for path in files(root, (".antt", ".rt")):
         text = read(path)
         seen |= set(TOKEN.findall(text))
@@ -60,6 +62,7 @@ def names(root):
         own = set(DECLARED.findall(text))
         declared |= own
         if "/specs/" in path:
+            specified |= own
             defined |= {spelled(n) for n in own}
     words = set(TOKEN.findall(read(LIBRARY + "/specs/Prelude.antt") + read(LIBRARY + "/proofs/Common.antt")))
     foreign |= {w for w in words if "-" in w}
@@ -76,9 +79,9 @@ def names(root):
         new[name] = name + "_lem"
     count = collections.Counter(new.values())
     for name, to in sorted(new.items()):
-        if "-" in name and (count[to] > 1 or to in seen and to not in new):
+        if "-" in name and name not in specified and (count[to] > 1 or to in seen and to not in new):
             new[name] = to + "_lem"
-    return new
+    return new | MISTAKEN
 
 
 def main(argv):

@@ -96,15 +96,15 @@ module _ (l : List ℕ) (at id : ℕ) (ei : id ≡ id_of (get_or l at 0)) (small
       decoded_fault e = by_fault ∙ rw e
 
       module _ (clear : found first_at ≡ false) where
-        no_fault_lem : decoded_at l at ≡ view at whole
-        no_fault_lem = by_fault ∙ rw clear
+        no_fault : decoded_at l at ≡ view at whole
+        no_fault = by_fault ∙ rw clear
 
         -- 9
         pub decoded_short : length l - at < size_at l at → decoded_at l at ≡ refused_at 9 at
         decoded_short cut =
             let e : size_at l at ≡ suc (rest_size (row_at id) h ws) = size-known l at id ei small k in
             let o = own-length (group_id id) k.length_more in
-            no_fault_lem ∙ rw (lt-ltb (length ws) (rest_size (row_at id) h ws) (omega (arith, length-drop (suc at) l)), add-zero at)
+            no_fault ∙ rw (lt-ltb (length ws) (rest_size (row_at id) h ws) (omega (arith, length-drop (suc at) l)), add-zero at)
 
         pub decoded_command : size_at l at ≤ length l - at
             → decoded_at l at ≡ Command (record { words = size_at l at; setting = is_setting (row_at id).kind; begin = is_begin (row_at id).kind; base = is_base id })
@@ -113,7 +113,7 @@ module _ (l : List ℕ) (at id : ℕ) (ei : id ≡ id_of (get_or l at 0)) (small
             let e : size_at l at ≡ suc n = size-known l at id ei small k in
             let o = own-length (group_id id) k.length_more in
             let f : n ≤ length ws = omega (arith, length-drop (suc at) l) in
-            no_fault_lem ∙ rw (le-ltb (length ws) n f)
+            no_fault ∙ rw (le-ltb (length ws) n f)
             (ap₂ (λ (m i : ℕ). Command (record { words = m; setting = is_setting (row_at id).kind; begin = is_begin (row_at id).kind; base = is_base i }))
             (ap suc (length-take-le n ws f) ∙ sym e) k.own-id)
 

@@ -9,7 +9,6 @@ use lib.ListN.{length}
 use lib.Seq.{sets}
 use Rattle.rules.specs.Command.{Command, words_all}
 use Rattle.rules.specs.Walk.{Parsed, refused, accepted, parse}
-use Rattle.rules.specs.Records.{records}
 use Rattle.rules.specs.Form.{form}
 use Rattle.rules.specs.declared.Refusal.{Refusal}
 use Rattle.rules.specs.declared.Answer.{Answer}

@@ -16,7 +16,7 @@ pub record Valid (c : Command) : Type 0 where
   pub found : row_of c.row.id ≡ some c.row
   pub small : c.header < 2 ^ 24
   pub size : length c.rest ≡ rest_size c.row c.header c.rest
-  pub no_fault_lem : NoFault (faults c.row c.header (take (own_size c.row c.header) c.rest))
+  pub no_fault : NoFault (faults c.row c.header (take (own_size c.row c.header) c.rest))
 
 abbrev pub AllValid : List Command → Type 0
 AllValid [] = Unit {0}

@@ -29,8 +29,8 @@ fault b n w = record { found = b; why = refusal n w }
 
 -- the refusal of the first fault found, else what follows
 abbrev pub first_fault : {A : Type 0} → (Refusal → A) → List Fault → A → A
-first_fault refuse [] None-found = None-found
-first_fault refuse (f ∷ fs) None-found = cond f.found (refuse f.why) (first_fault refuse fs None-found)
+first_fault refuse [] none_found = none_found
+first_fault refuse (f ∷ fs) none_found = cond f.found (refuse f.why) (first_fault refuse fs none_found)
 
 -- 6 at the "lowest such word", from word i on
 abbrev pub undefined_faults : ℕ → List ℕ → List ℕ → List Fault

@@ -40,7 +40,7 @@ module _ (c : Command) (v : Valid c) where
   word_defined zero h =
       let header : header_of (first_word c.row.id c.header) ≡ c.header = low c.row.id 24 v.small in
       first_defined (first_word c.row.id c.header) c.row.mask (row-mask _ c.row v.found)
-      (ap (λ (x : ℕ). undefined x c.row.mask) header ∙ v.no_fault_lem.0)
+      (ap (λ (x : ℕ). undefined x c.row.mask) header ∙ v.no_fault.0)
   word_defined (suc k) h =
       (elim (ltb k own) as (λ t. ltb k own ≡ t → AllDefined (get_or c.rest k 0) (get_or (more_masks c.row c.header) k 0xFFFFFFFF)) [
         | true ↦ λ e. own-word (ltb-true k own e)
@@ -50,7 +50,7 @@ module _ (c : Command) (v : Valid c) where
       own-word : k < own → AllDefined (get_or c.rest k 0) (get_or (more_masks c.row c.header) k 0xFFFFFFFF)
       own-word b =
           let n = length-take-le own c.rest (omega (arith, v.size)) in
-          let t = none_undefined 1 (more_masks c.row c.header) (take own c.rest) _ v.no_fault_lem.1 k b (omega arith) in
+          let t = none_undefined 1 (more_masks c.row c.header) (take own c.rest) _ v.no_fault.1 k b (omega arith) in
           rw (any_default (more_masks c.row c.header) k 0xFFFFFFFF 0 b, ← get_or-take own c.rest k 0 b) (all_defined _ _ t)
 
       payload-word : own ≤ k → AllDefined (get_or c.rest k 0) (get_or (more_masks c.row c.header) k 0xFFFFFFFF)

@@ -65,7 +65,7 @@ whole r h ws = cond (ltb (length ws) (rest_size r h ws)) (bad (refusal 9 0)) (go
 pub record Passed (r : Row) (h : ℕ) (ws : List ℕ) (c : Command) : Type 0 where
   pub enough : rest_size r h ws ≤ length ws
   pub is : taken r h ws ≡ c
-  pub no_fault_lem : NoFault (faults r h (take (own_size r h) ws))
+  pub no_fault : NoFault (faults r h (take (own_size r h) ws))
 
 pub passed : (r : Row) (h : ℕ) (ws : List ℕ) (c : Command) → decode_row r h ws ≡ good c → Passed r h ws c
 unfolding decode_row
@@ -73,7 +73,7 @@ passed r h ws c e =
     let p = cond-else (ltb (length ws) (own_size r h)) (bad (refusal 5 0)) (first_fault bad (faults r h (take (own_size r h) ws)) (whole r h ws)) (good c) (no_good (refusal 5 0)) e in
     let q = none_told bad (good c) no_good (faults r h (take (own_size r h) ws)) (whole r h ws) p.1 in
     let t = cond-else (ltb (length ws) (rest_size r h ws)) (bad (refusal 9 0)) (good (taken r h ws)) (good c) (no_good (refusal 9 0)) q.0 in
-    record { enough = ltb-false _ _ t.0; is = cc; no_fault_lem = q.1 }
+    record { enough = ltb-false _ _ t.0; is = cc; no_fault = q.1 }
   where
     no_good : (f : Refusal) → bad f ≡ good c → ⊥
     no_good f x = let z : ◌≡◌ {A = ℕ} 0 1 = cc in omega arith
@@ -97,7 +97,7 @@ module _ (r : Row) (h : ℕ) (ws : List ℕ) (c : Command) (p : Passed r h ws c)
         found = e;
         small = s;
         size = length-take-le (rest_size r h ws) ws p.enough ∙ sym (size_cong r h (take (rest_size r h ws) ws) ws own);
-        no_fault_lem = subst (λ (l : List ℕ). NoFault (faults r h l)) (sym own) p.no_fault_lem;
+        no_fault = subst (λ (l : List ℕ). NoFault (faults r h l)) (sym own) p.no_fault;
       })
 
 -- a valid command's words say how many they are, and pass, whatever follows them
@@ -121,7 +121,7 @@ module _ (c : Command) (tail : List ℕ) (v : Valid c) where
   pub valid_passes : decode_row c.row c.header (c.rest ++ tail) ≡ good c
   valid_passes =
       passes c.row c.header (c.rest ++ tail) (omega (arith, valid-size, length-append c.rest tail))
-      (subst (λ (l : List ℕ). NoFault (faults c.row c.header l)) (sym own) v.no_fault_lem)
+      (subst (λ (l : List ℕ). NoFault (faults c.row c.header l)) (sym own) v.no_fault)
       ∙ ap good valid-taken
 
 -- a setting has just its words

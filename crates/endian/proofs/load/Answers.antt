@@ -1,8 +1,7 @@
-use Prim.Native.Nat.{◌*◌, ◌-◌, ◌≤◌}
 use native.Mathlib.Omega.{arith}
-use mathlib.Core.Path.{◌≡◌, refl, ap, sym, ◌∙◌}
-use lib.ListN.{length, take}
-use lib.Seq.{sets, set_out, length-sets}
+use mathlib.Core.Path.{refl, ap, sym, ◌∙◌}
+use lib.ListN.{length}
+use lib.Seq.{set_out, length-sets}
 use Rattle.endian.specs.Words.{words_of}
 use Rattle.endian.proofs.Words.{words_more, words-all}
 use Rattle.endian.proofs.load.Goals as goal

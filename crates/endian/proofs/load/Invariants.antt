@@ -1,11 +1,8 @@
 use Prim.Native.Nat.{◌*◌, ◌-◌, ◌≤◌}
-use native.Mathlib.Omega.{arith}
-use mathlib.Core.Path.{◌≡◌, refl, ap, sym, ◌∙◌}
-use mathlib.Core.Logic.{⊎_elim}
+use mathlib.Core.Path.{◌≡◌}
 use lib.ListN.{length, take}
-use lib.Seq.{sets, set_out, length-sets}
+use lib.Seq.{sets}
 use Rattle.endian.specs.Words.{words_of}
-use Rattle.endian.proofs.Words.{words_more, words-all}
 use Rattle.endian.proofs.load.Given as goal
 
 abbrev pub invariant-loop-i : goal.invariant-loop-i

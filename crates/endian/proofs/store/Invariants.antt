@@ -1,10 +1,8 @@
 use Prim.Native.Nat.{◌-◌, ◌≤◌}
-use native.Mathlib.Omega.{arith}
-use mathlib.Core.Path.{◌≡◌, refl, ap, ◌∙◌}
+use mathlib.Core.Path.{◌≡◌}
 use lib.ListN.{length, take}
-use lib.Seq.{sets, length-sets}
+use lib.Seq.{sets}
 use Rattle.endian.specs.Words.{bytes_of}
-use Rattle.endian.proofs.Bytes.{bytes-more, bytes-all}
 use Rattle.endian.proofs.store.Given as goal
 
 abbrev pub invariant-loop-i : goal.invariant-loop-i

@@ -1,8 +1,5 @@
 use native.Mathlib.Omega.{arith}
-use Prim.Native.Nat.{◌-◌}
-use mathlib.Core.Path.{sym, ◌∙◌}
-use lib.ListN.{length}
-use Rattle.list.proofs.Steps.{Walking, walking_counted, walking_start, walking_stop, walking_on, walking_end}
+use Rattle.list.proofs.Steps.{walking_counted, walking_start, walking_stop, walking_on, walking_end}
 use Rattle.list.proofs.walk.Goals as goal
 
 pub start-c-requires : goal.start-c-requires

@@ -1,8 +1,6 @@
-use native.Mathlib.Omega.{arith}
 use Prim.Native.Nat.{◌-◌}
-use mathlib.Core.Path.{sym, ◌∙◌}
 use lib.ListN.{length}
-use Rattle.list.proofs.Steps.{Walking, walking_counted, walking_start, walking_stop, walking_on, walking_end}
+use Rattle.list.proofs.Steps.{Walking}
 use Rattle.list.proofs.walk.Given as goal
 
 abbrev pub invariant-loop-c : goal.invariant-loop-c

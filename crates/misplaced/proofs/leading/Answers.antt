@@ -1,11 +1,9 @@
 use native.Mathlib.Omega.{arith}
 use mathlib.Core.Path.{◌≡◌, refl, sym, ◌∙◌, subst}
 use mathlib.Core.Bool.{true}
-use Prim.Native.Nat.{ℕ, ◌+◌, ◌-◌, ◌≤◌}
+use Prim.Native.Nat.{ℕ}
 use borrow.Author.Tests.{eq-eqb, ne_eqb}
-use lib.ListN.{length}
 use Rattle.rules.specs.Form.{read}
-use Rattle.rules.specs.Pci.{values}
 use Rattle.pairs.specs.View.{addresses}
 use Rattle.pairs.proofs.Pairs.{pair_count}
 use Rattle.placed.specs.View.{placed}

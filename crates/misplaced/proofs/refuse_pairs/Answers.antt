@@ -1,11 +1,11 @@
 use native.Mathlib.Omega.{arith}
-use mathlib.Core.Path.{◌≡◌, refl, ap, sym, ◌∙◌}
+use mathlib.Core.Path.{refl, ap, sym, ◌∙◌}
 use mathlib.Core.Option.{Option}
-use Prim.Native.Nat.{◌-◌, ◌≤◌, ◌<◌}
+use Prim.Native.Nat.{◌<◌}
 use lib.ListN.{length}
 use Rattle.rules.specs.declared.Refusal.{Refusal}
 use Rattle.rules.specs.Pci.{values}
-use Rattle.misplaced.specs.View.{misplaced_from, or_else}
+use Rattle.misplaced.specs.View.{or_else}
 use Rattle.pairs.proofs.Pairs.{pair_count}
 use Rattle.command.proofs.Sizes.{size-pos}
 use Rattle.misplaced.proofs.Misplaced.{none_behind, leading-wrong, leading_cut, leading-all}

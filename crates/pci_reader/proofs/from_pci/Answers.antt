@@ -1,5 +1,5 @@
 use native.Mathlib.Omega.{arith}
-use mathlib.Core.Path.{sym, ◌∙◌}
+use mathlib.Core.Path.{sym}
 use Rattle.pairs.proofs.Pairs.{pair_count}
 use Rattle.pci_reader.proofs.Answering.{from-refused, from-short, from-done}
 use Rattle.pci_reader.proofs.from_pci.Goals as goal

@@ -1,5 +1,5 @@
 use native.Mathlib.Omega.{arith}
-use mathlib.Core.Path.{sym, ◌∙◌}
+use mathlib.Core.Path.{sym}
 use Rattle.list.proofs.Answers.{counts}
 use Rattle.pci_writer.proofs.Answering.{to_refused, to_short, to_done}
 use Rattle.pci_writer.proofs.to_pci.Goals as goal

@@ -1,10 +1,6 @@
 use native.Mathlib.Omega.{arith}
-use Prim.Native.Nat.{◌-◌}
-use lib.ListN.{length}
-use Rattle.rules.specs.Walk.{parse}
-use Rattle.rules.specs.Answer.{commands_of}
 use Rattle.theory.proofs.Parse.{parse-accepted}
-use Rattle.pci_writer.proofs.Writing.{Put, put-start, put-length, put-command, put_on, put_end}
+use Rattle.pci_writer.proofs.Writing.{put-start, put-length, put-command, put_on, put_end}
 use Rattle.pci_writer.proofs.write_list.Goals as goal
 
 pub write_command-at-requires : goal.write_command-at-requires

@@ -1,10 +1,6 @@
-use Prim.Native.Nat.{◌*◌, ◌-◌, ◌≤◌}
 use native.Mathlib.Omega.{arith}
 use mathlib.Core.Path.{◌≡◌, refl, ◌∙◌}
-use lib.ListN.{length, length-set}
-use lib.Seq.{sets}
-use Rattle.rules.specs.Form.{read}
-use Rattle.rules.specs.Pci.{pairs_from}
+use lib.ListN.{length-set}
 use Rattle.pci_writer.proofs.Writing.{pair_on}
 use Rattle.pci_writer.proofs.write_words.Goals as goal
 

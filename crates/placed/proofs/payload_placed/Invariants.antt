@@ -1,16 +1,8 @@
-use native.Mathlib.Omega.{arith}
-use mathlib.Core.Path.{◌≡◌, refl, ap, sym, ◌∙◌}
-use mathlib.Core.Bool.{true, false}
-use Prim.Native.Nat.{ℕ, ◌-◌, ◌≤◌}
-use lib.Dec.{leb}
-use lib.ListN.{length}
-use borrow.Author.Tests.{le-leb, lt-leb}
+use mathlib.Core.Path.{◌≡◌}
+use Prim.Native.Nat.{◌-◌, ◌≤◌}
 use Rattle.rules.specs.Form.{read}
-use Rattle.rules.specs.Pci.{values}
 use Rattle.pairs.specs.View.{addresses}
-use Rattle.pairs.proofs.Pairs.{pair_count}
 use Rattle.placed.specs.View.{placed}
-use Rattle.placed.proofs.Placed.{placed_one}
 use Rattle.placed.proofs.payload_placed.Given as goal
 
 abbrev pub invariant-loop-i : goal.invariant-loop-i

@@ -1,14 +1,8 @@
-use native.Mathlib.Omega.{arith}
 use Prim.Native.Nat.{◌≤◌, ◌-◌}
-use mathlib.Core.Path.{ap, ◌∙◌}
 use lib.ListN.{length}
-use lib.Seq.{length-sets}
 use Rattle.rules.specs.Walk.{parse}
-use Rattle.rules.specs.Records.{records, record_words}
 use Rattle.rules.specs.Answer.{commands_of}
-use Rattle.theory.proofs.Parse.{parse-accepted}
-use Rattle.theory.proofs.Differing.{length-final}
-use Rattle.reader.proofs.Applying.{Applying, applying_start, applying_command, applying_on, applying_end}
+use Rattle.reader.proofs.Applying.{Applying}
 use Rattle.reader.proofs.apply_list.Given as goal
 
 abbrev pub invariant-loop-p : goal.invariant-loop-p

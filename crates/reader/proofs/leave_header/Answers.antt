@@ -1,5 +1,4 @@
 use mathlib.Core.Path.{◌≡◌, sym, ap, ◌∙◌}
-use borrow.Author.Tests.{not-true, not-false}
 use Rattle.rules.specs.Word.{id_of}
 use Rattle.command.specs.Effects.{id_at}
 use Rattle.command.proofs.Effects.{is-work}

@@ -1,4 +1,4 @@
-use mathlib.Core.Path.{sym, ◌∙◌}
+use mathlib.Core.Path.{sym}
 use Rattle.list.proofs.Answers.{counts}
 use Rattle.reader.proofs.Reading.{read-refused, read_short, read_fits, read_done}
 use Rattle.reader.proofs.read.Goals as goal

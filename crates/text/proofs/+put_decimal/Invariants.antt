@@ -1,6 +1,3 @@
-use Rattle.std.proofs.Common.{◌≡◌, [], ◌∷◌, ◌<◌, ℕ, ◌+◌, ◌-◌, ◌*◌, ◌≤◌, length}
-use Rattle.text.specs.Text.{digit, hex, decimal}
-use Rattle.text.specs.Puts.{Puts, Bounded}
 use Rattle.text.proofs.+put_decimal.Given as goal
 
 -- proposed from what the function passes where it calls itself

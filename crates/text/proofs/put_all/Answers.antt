@@ -1,9 +1,6 @@
 use Rattle.text.proofs.Parts.{puts-more, puts-all, puts-length}
-use Prim.Native.Nat.{◌≤◌, ◌-◌}
 use native.Mathlib.Omega.{arith}
-use mathlib.Core.Path.{◌≡◌, refl}
-use lib.ListN.{length, take}
-use lib.Seq.{sets}
+use mathlib.Core.Path.{refl}
 use Rattle.text.proofs.put_all.Goals as goal
 
 pub loop-i-init : goal.loop-i-init

@@ -1,7 +1,5 @@
-use Rattle.text.proofs.Parts.{puts-more, puts-all, puts-length}
 use Prim.Native.Nat.{◌≤◌, ◌-◌}
-use native.Mathlib.Omega.{arith}
-use mathlib.Core.Path.{◌≡◌, refl}
+use mathlib.Core.Path.{◌≡◌}
 use lib.ListN.{length, take}
 use lib.Seq.{sets}
 use Rattle.text.proofs.put_all.Given as goal

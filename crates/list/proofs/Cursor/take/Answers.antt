@@ -1,4 +1,4 @@
-use mathlib.Core.Path.{ap, sym, ◌∙◌, subst}
+use mathlib.Core.Path.{ap, sym, subst}
 use Rattle.list.specs.View.{advanced, InsideAfter}
 use Rattle.list.proofs.Steps.{inside-ordered}
 use Rattle.list.proofs.Cursor.take.Goals as goal
