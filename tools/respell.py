@@ -11,6 +11,7 @@ already, what had it gets `_lem`, as a lemma does that would have its function's
 import collections
 import os
 import re
+import subprocess
 import sys
 
 TOKEN = re.compile(r"[A-Za-z_][A-Za-z0-9_']*(?:-[A-Za-z0-9_'*]+)*")
@@ -21,7 +22,6 @@ FUNCTION = re.compile(r"\bfn (\w+)")
 TAKEN = ["mask_at", "in_place", "of_row", "put_one"]
 # a variable that port.py took for a constructor
 MISTAKEN = {"None-found": "none_found"}
-LIBRARY = "/opt/rattle/rattle/std"
 
 
 def files(root, ends):
@@ -64,7 +64,9 @@ def names(root):
         if "/specs/" in path:
             specified |= own
             defined |= {spelled(n) for n in own}
-    words = set(TOKEN.findall(read(LIBRARY + "/specs/Prelude.antt") + read(LIBRARY + "/proofs/Common.antt")))
+    kit = os.path.dirname(subprocess.run(["rt", "doc"], capture_output=True, text=True, check=True).stdout.strip())
+    library = os.path.join(kit, "rattle", "std")
+    words = set(TOKEN.findall(read(library + "/specs/Prelude.antt") + read(library + "/proofs/Common.antt")))
     foreign |= {w for w in words if "-" in w}
     known = defined | functions | {w for w in words if "-" not in w}
     new = {}
