@@ -20,8 +20,8 @@ IMPORT = re.compile(r"^use (?!Rattle\.(?!std\b|core\b))[^{\n]*\{([^}]*)\}", re.M
 FUNCTION = re.compile(r"\bfn (\w+)")
 # lemmas whose names a definition takes
 TAKEN = ["mask_at", "in_place", "of_row", "put_one"]
-# a variable that port.py took for a constructor
-MISTAKEN = {"None-found": "none_found"}
+# a variable that port.py took for a constructor, and a field that has the name of one
+FIXED = {"None-found": "none_found", "records-are": "records_are"}
 
 
 def files(root, ends):
@@ -83,7 +83,7 @@ def names(root):
     for name, to in sorted(new.items()):
         if "-" in name and name not in specified and (count[to] > 1 or to in seen and to not in new):
             new[name] = to + "_lem"
-    return new | MISTAKEN
+    return new | FIXED
 
 
 def main(argv):

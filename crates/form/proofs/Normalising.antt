@@ -58,4 +58,4 @@ module _ (l image buffer : List ℕ) where
 
   pub measure-done : (c k : ℕ) → walked_of (parse image l) ≡ walked.Accepted c k → accepted_answer (length l) c k (length (normal_form image l)) ≡ measuring l image
   unfolding measuring
-  measure-done c k e = let f = counts (parse image l) c k e in sym (ap (measure_parsed l image) f.is ∙ rw (f.commands, f.records_are_lem))
+  measure-done c k e = let f = counts (parse image l) c k e in sym (ap (measure_parsed l image) f.is ∙ rw (f.commands, f.records_are))

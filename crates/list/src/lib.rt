@@ -178,6 +178,7 @@ pub fn refused(number: u32, word: usize) -> Walked
 }
 
 // The verdict on a list, before anything is written: refusals 1 to 10, or the counts.
+#[tactic(auto, using(crate::proofs::Answers::image_refused))]
 pub fn check(list: &[u32], image: &[u32]) -> Walked
     ensures { result ≡ walked_of (parse image.now list.now) }
 {

@@ -1,17 +1,26 @@
 -- The answer of `from_pci`, by what the first pass found and the buffer's length.
-use Prim.Native.Nat.{ℕ, ◌≤◌, ◌<◌}
+use Prim.Native.Nat.{ℕ, ◌/◌, ◌≤◌, ◌<◌}
 use native.Mathlib.Omega.{arith}
 use mathlib.Core.Path.{◌≡◌, refl}
 use mathlib.Core.List.{List}
+use borrow.Author.Tests.{lt-ltb}
 use lib.ListN.{length}
 use lib.Seq.{sets}
 use Rattle.rules.specs.declared.Refusal.{Refusal}
 use Rattle.rules.specs.Values.{refusal}
 use Rattle.rules.specs.Answer.{accepted_answer, refuse}
 use Rattle.rules.specs.Pci.{values, parse_pairs, from_pci}
+use Rattle.pairs.proofs.Pairs.{pair_count}
 use Rattle.list.specs.declared.Walked.TheVariants as walked
 use Rattle.list.specs.View.{walked_of}
 use Rattle.list.proofs.Answers.{answer-refused, answer-short, answer-done}
+
+-- more pairs than a list has words
+pub length_refused : (image ps : List ℕ) → 4096 < length ps / 2 → walked_of (parse_pairs image ps) ≡ walked.Refused (refusal 1 4096)
+unfolding parse_pairs
+length_refused image ps many =
+    let n : 4096 < length (values ps) = omega (arith, pair_count ps, many) in
+    rw (lt-ltb 4096 (length (values ps)) n)
 
 module _ (ps image buffer : List ℕ) where
   pub from-refused : (f : Refusal) → walked_of (parse_pairs image ps) ≡ walked.Refused f → refuse f image buffer ≡ from_pci ps image buffer

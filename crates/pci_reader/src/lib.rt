@@ -109,6 +109,7 @@ fn walk(rows: &[u8; 256], masks: &Masks, pairs: &[u32]) -> Walked
 }
 
 // The verdict on pairs, before anything is written: refusals 1, 2, 13, 14 and 3 to 10, or the counts.
+#[tactic(auto, using(crate::proofs::Answering::length_refused))]
 fn check(pairs: &[u32], image: &[u32]) -> Walked
     ensures { result ≡ walked_of (parse_pairs image.now pairs.now) }
 {

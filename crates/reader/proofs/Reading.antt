@@ -39,22 +39,22 @@ module _ (l image buffer : List ℕ) where
     pub read_short : length buffer / 4 < k → refuse (refusal 11 (length l)) image buffer ≡ reading l image buffer
     unfolding reading cs
     read_short h =
-        sym (ap (read_parsed l image buffer) n.is ∙ rw (lt-ltb (room buffer) (length (records 0 (commands_of (parse image l)))) (omega (arith, n.records_are_lem))))
+        sym (ap (read_parsed l image buffer) n.is ∙ rw (lt-ltb (room buffer) (length (records 0 (commands_of (parse image l)))) (omega (arith, n.records_are))))
 
     pub read_fits : k ≤ length buffer / 4 → length (records_from image l) ≤ length buffer
-    read_fits h = omega (arith, length-record_words (records 0 (commands_of (parse image l))), n.records_are_lem)
+    read_fits h = omega (arith, length-record_words (records 0 (commands_of (parse image l))), n.records_are)
 
     pub read_done : k ≤ length buffer / 4
         → outcome (accepted_answer (length l) c k (k * 4)) (final image (commands_from image l)) (sets buffer 0 (records_from image l)) ≡ reading l image buffer
     unfolding reading cs
     read_done h =
         let w = length-record_words (records 0 (commands_of (parse image l))) in
-        let words : length (record_words (records 0 (commands_of (parse image l)))) ≡ k * 4 = omega (arith, n.records_are_lem) in
+        let words : length (record_words (records 0 (commands_of (parse image l)))) ≡ k * 4 = omega (arith, n.records_are) in
         sym (ap (read_parsed l image buffer) n.is
         ∙ rw (
-          le-ltb (room buffer) (length (records 0 (commands_of (parse image l)))) (omega (arith, n.records_are_lem)),
+          le-ltb (room buffer) (length (records 0 (commands_of (parse image l)))) (omega (arith, n.records_are)),
           ← put_front buffer (record_words (records 0 (commands_of (parse image l)))) (omega arith),
           words,
           n.commands,
-          n.records_are_lem,
+          n.records_are,
         ))

@@ -112,6 +112,11 @@ emit_none changed l image latest o e = rw (e, numbers_none 64 0, numbers_none 64
 
 -- ---- one setting
 
+-- before any command that put it out, the form has a setting of one word as the starting image has it
+pub built_at_start : (l image : List ℕ) (w before : ℕ) → before ≡ 0 → is_built 0 l image w [] before ≡ eqb (get_or image (id_of w) 0) (header_of w)
+unfolding is_built
+built_at_start l image w before e = rw (e, ← and_one (eqb (get_or image (id_of w) 0) (header_of w)))
+
 -- the command at a position of the list sets a setting to what an image has
 pub record SetAt (l : List ℕ) (at : ℕ) (r : Row) (im : List ℕ) : Type 0 where
   pub words_are : read l at (size r) ≡ words (emit r im)

@@ -34,6 +34,7 @@ fn same_group(w: u32, b: u32, c: u32, d: u32, s: &[u32], at: usize) -> bool
 }
 
 // The form has built the setting with this word: its command last put out has it, or, before any, the starting image.
+#[tactic(auto, using(crate::proofs::Emitting::built_at_start))]
 fn single_is_built(list: &[u32], image: &[u32], w: u32, before: usize) -> bool
     requires { (id_of w < length image.now) × (before ≤ length list.now) }
     ensures { result ≡ is_built 0 list.now image.now w [] before }
@@ -177,6 +178,7 @@ fn emit_changed(
 }
 
 // The same, called only where something changed: many work commands follow each other with no setting in between.
+#[tactic(auto, using(crate::proofs::Emitting::emit_none))]
 pub fn emit_settings(
     changed: u64,
     list: &[u32],

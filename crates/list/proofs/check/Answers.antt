@@ -1,5 +1,5 @@
 use native.Mathlib.Omega.{arith}
-use borrow.Author.Tests.{lt-ltb, le-ltb, eq-eqb, ne_eqb}
+use borrow.Author.Tests.{lt-ltb, le-ltb, eq-eqb}
 use borrow.Author.Rules.{rules}
 use lib.ListN.{length, length-take}
 use lib.Seq.{take-length}
@@ -10,10 +10,6 @@ use Rattle.list.proofs.check.Goals as goal
 pub returns-then-list-gt4096 : goal.returns-then-list-gt4096
 unfolding parse
 returns-then-list-gt4096 c = rw (lt-ltb 4096 (length c.args.list.now) (omega arith)) (search rules)
-
-pub returns-then-image-ne256 : goal.returns-then-image-ne256
-unfolding parse
-returns-then-image-ne256 c = rw (le-ltb 4096 (length c.args.list.now) (omega arith), ne_eqb (length c.args.image.now) 256 (omega arith)) (search rules)
 
 pub slice_bounds-walk-end : goal.slice_bounds-walk-end
 slice_bounds-walk-end c = simp length-take (omega arith)

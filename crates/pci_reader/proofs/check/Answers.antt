@@ -1,16 +1,11 @@
 use native.Mathlib.Omega.{arith}
 use lib.ListN.{length}
-use borrow.Author.Tests.{lt-ltb, le-ltb, eq-eqb, ne_eqb}
+use borrow.Author.Tests.{le-ltb, eq-eqb, ne_eqb}
 use Rattle.rules.specs.Walk.{start}
 use Rattle.rules.specs.Pci.{values, parse_pairs}
 use Rattle.list.proofs.Steps.{at_start}
 use Rattle.pairs.proofs.Pairs.{pair_count}
 use Rattle.pci_reader.proofs.check.Goals as goal
-
-pub returns-then-pairs-gt4096 : goal.returns-then-pairs-gt4096
-unfolding parse_pairs
-returns-then-pairs-gt4096 c = let n = length (values c.args.pairs.now) in
-    rw (lt-ltb 4096 n (omega (arith, c.if-pairs-gt4096.true, pair_count c.args.pairs.now))) c.refused.ensures
 
 pub returns-then-image-ne256 : goal.returns-then-image-ne256
 unfolding parse_pairs
