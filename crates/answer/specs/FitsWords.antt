@@ -1,6 +1,6 @@
 -- Answers as 32-bit words.
 use Rattle.std.specs.Prelude.{◌^◌, ◌<◌}
-use Rattle.rules.specs.declared.Answer.{Answer}
+use Rattle.rules.specs.Verdict.{Answer}
 
 -- every number of an answer fits a 32-bit word
 pub record FitsWords (a : Answer) : Type 0 where

@@ -1,4 +1,3 @@
-pub mod Rest
-pub mod Faults
+pub mod Entries
 pub mod Writing
-pub mod Written
+pub mod Calls

@@ -1,55 +1,33 @@
--- The writer: what its loops leave in the book.
-use Prim.Native.Nat.{ℕ, zero, suc, ◌+◌, ◌-◌, ◌*◌, ◌≤◌, ◌<◌}
-use native.Mathlib.Omega.{arith}
-use mathlib.Core.Path.{◌≡◌, refl, ap, sym, ◌∙◌}
-use mathlib.Core.Bool.{true}
-use mathlib.Core.List.{List, [], ◌∷◌}
-use lib.ListN.{length, get_or, set, take, drop, drop_of_length-le, length-set, length-append}
-use lib.Seq.{sets, length-sets, set_comm, drop-cons}
+-- The writer: what its loop leaves in the book.
+use Rattle.std.proofs.Common.{◌≡◌, ℕ, suc, ◌+◌, ◌-◌, ◌*◌, ◌≤◌, ◌<◌, true, List, [], ◌∷◌, length, get_or, take, drop, set, refl, ap, sym, ◌∙◌, arith, length-append, append_assoc, drop_of_length-le}
+use lib.Seq.{sets, sets-eq, length-sets, set_comm, drop-drop}
+use borrow.Rule.Slice.PartMut.{put_mid}
 use Rattle.rules.specs.declared.Entry.{Entry}
-use Rattle.rules.specs.Book.{entries, body_in, bodies_at, scenes_in, contents_of, bodies, book_of, in_buffer, entry_at}
+use Rattle.rules.specs.Book.{body_in, bodies_at, scenes_in, contents_of, bodies, in_buffer}
 use Rattle.theory.proofs.Image.{sets_append}
-use Rattle.theory.proofs.Contents.{body-length, Inside, inside}
-use Rattle.theory.proofs.Scenes.{scenes-length, contents-length}
-use Rattle.book.specs.Tables.{total, book_size, CanWrite, CanPut, with_scene, with_scenes}
-use Rattle.book.proofs.Rest.{rest, rest_all, rest_none, rest-one}
-
--- ---- a copy, word by word
-
-module _ (from out : List ℕ) (at i : ℕ) where
-  pub copy-on : i < length from → sets out (at + i) (drop i from) ≡ sets (set out (at + i) (get_or from i 0)) (at + (i + 1)) (drop (i + 1) from)
-  copy-on h =
-      let n : i + 1 ≡ suc i = omega arith in
-      let m : at + suc i ≡ suc (at + i) = omega arith in
-      rw (drop-cons from i 0 h, n, m)
-
-  pub copy_end : length from ≤ i → sets out (at + i) (drop i from) ≡ out
-  copy_end h = rw (drop_of_length-le from h)
+use Rattle.theory.proofs.Contents.{body-length, inside}
+use Rattle.theory.proofs.Scenes.{contents-length}
+use Rattle.book.specs.Tables.{entry_of, entries_of, total, book_size, CanPut, with_scene, with_scenes, with_book}
+use Rattle.book.proofs.Entries.{entries_length, entries-on}
 
 -- ---- one scene
 
-pub record PutFits (e : Entry) (ws book : List ℕ) (at : ℕ) : Type 0 where
-  pub short : e.length ≤ 4096
-  pub inside : e.start + e.length ≤ length ws
-  pub body : at + e.length ≤ length book
-
-pub put-fits : {table : List ℕ} {k : ℕ} {ws book : List ℕ} {at : ℕ} {e : Entry} → CanPut table k ws book at → e ≡ entry_at table k → PutFits e ws book at
-put-fits p is = rw is (record { short = p.short; inside = p.inside; body = p.body })
-
--- the part that is copied
-pub part_length : (ws : List ℕ) (e : Entry) → e.start + e.length ≤ length ws → length (take (e.start + e.length - e.start) (drop e.start ws)) ≡ e.length
-part_length ws e h =
-    let s : e.start + e.length - e.start ≡ e.length = omega arith in
-    rw s (body-length ws e h)
+pub put_mid-sets : (xs ys : List ℕ) (at end : ℕ) → at + length ys ≡ end → end ≤ length xs → put_mid at (end - at) xs ys ≡ sets xs at ys
+put_mid-sets xs ys at end e h =
+    let d : end - at ≡ length ys = omega arith in
+    let l : at + length ys ≤ length xs = omega arith in
+    rw (d, drop-drop (length ys) at xs) (sym (append_assoc (take at xs) ys (drop (at + length ys) xs)) ∙ sym (sets-eq ys xs at l))
 
 -- the three words of an entry, then the body
-pub scene-put : (ws book : List ℕ) (i at : ℕ) (e : Entry) {out : List ℕ}
-    → out ≡ sets (set (set (set book i e.number) (i + 1) at) (i + 2) e.length) at (take (e.start + e.length - e.start) (drop e.start ws)) → out ≡ with_scene ws i at e book
-scene-put ws book i at e is =
-    let s : e.start + e.length - e.start ≡ e.length = omega arith in
-    let n : i + 1 ≡ suc i = omega arith in
-    let m : i + 2 ≡ suc (suc i) = omega arith in
-    rw (is, s, n, m)
+pub scene-put : (ws book : List ℕ) (i at : ℕ) (e : Entry) → CanPut e ws i at book → {body : List ℕ} → body ≡ take (e.start + e.length - e.start) (drop e.start ws)
+    → put_mid at (at + e.length - at) (set (set (set book i e.number) (i + 1) at) (i + 2) e.length) body ≡ with_scene ws i at e book
+scene-put ws book i at e can is =
+    let m : e.start + e.length - e.start ≡ e.length = omega arith in
+    let one : i + 1 ≡ suc i = omega arith in
+    let two : i + 2 ≡ suc (suc i) = omega arith in
+    let long : length (sets book i (e.number ∷ at ∷ e.length ∷ [])) ≡ length book = length-sets book i (e.number ∷ at ∷ e.length ∷ []) in
+    rw (is, m, one, two) (put_mid-sets (sets book i (e.number ∷ at ∷ e.length ∷ [])) (body_in ws e) at (at + e.length)
+    (omega (arith, body-length ws e can.inside)) (omega (arith, long, can.body)))
 
 -- ---- all scenes, one after the other
 
@@ -79,72 +57,44 @@ scenes-put ws i at (e ∷ es) book h l =
     ∙ ap (λ (m : ℕ). sets (sets (sets X (3 + i) more) at (body_in ws e)) (at + m) (bodies (scenes_in ws es))) (sym len)
     ∙ sym (sets_append (sets X (3 + i) more) at (body_in ws e) (bodies (scenes_in ws es))))
 
+pub scenes-count : (ws : List ℕ) (es : List Entry) → length (scenes_in ws es) ≡ length es
+scenes-count ws [] = refl
+scenes-count ws (e ∷ es) = ap suc (scenes-count ws es)
+
 pub bodies-length : (ws : List ℕ) (es : List Entry) → in_buffer (length ws) es ≡ true → length (bodies (scenes_in ws es)) ≡ total es
 bodies-length ws [] h = refl
 bodies-length ws (e ∷ es) h =
     let p = inside (length ws) e es h in
     omega (arith, length-append (body_in ws e) (bodies (scenes_in ws es)), body-length ws e p.inside, bodies-length ws es p.rest)
 
-pub total-few : (ws : List ℕ) (n : ℕ) (t : List ℕ) → in_buffer (length ws) (entries n t) ≡ true → total (entries n t) ≤ 4096 * n
-total-few ws zero t h = omega arith
-total-few ws (suc n) t h =
-    let p = inside (length ws) (record { number = get_or t 0 0; start = get_or t 1 0; length = get_or t 2 0 }) (entries n (drop 3 t)) h in
-    omega (arith, p.short, total-few ws n (drop 3 t) p.rest)
+total-few : (words : ℕ) (es : List Entry) → in_buffer words es ≡ true → total es ≤ 4096 * length es
+total-few words [] h = omega arith
+total-few words (e ∷ es) h = let p = inside words e es h in omega (arith, p.short, total-few words es p.rest)
 
--- what is to come from entry k on is what was to come at first
-pub record Standing (n : ℕ) (t ws first book : List ℕ) (at k : ℕ) : Type 0 where
-  pub upto : k ≤ n
-  pub inside : in_buffer (length ws) (rest t n k) ≡ true
-  pub sum : at + total (rest t n k) ≡ book_size n t
-  pub long : length book ≡ length first
-  pub same : with_scenes ws (3 * k + 1) at (rest t n k) book ≡ with_scenes ws 1 (bodies_at n) (entries n t) first
+module _ (wss : List (List ℕ)) (ws : List ℕ) where
+  module _ (k at : ℕ) (book : List ℕ) (h : k < length wss) {e : Entry} (is : e ≡ entry_of (get_or wss k [])) where
+    on : entries_of (drop k wss) ≡ e ∷ entries_of (drop (k + 1) wss)
+    on = rw is (entries-on wss k h)
 
-module _ {n : ℕ} {t ws book₀ : List ℕ} (can : CanWrite n t ws book₀) where
-  pub standing_start : Standing n t ws (set book₀ 0 n) (set book₀ 0 n) (bodies_at n) 0
-  standing_start = record { upto = omega arith; inside = rw rest_all can.inside; sum = rw rest_all; long = refl; same = rw rest_all }
+    pub can_put : length wss ≤ 256 → in_buffer (length ws) (entries_of wss) ≡ true → in_buffer (length ws) (entries_of (drop k wss)) ≡ true
+        → at + total (entries_of (drop k wss)) ≡ book_size (entries_of wss) → book_size (entries_of wss) ≤ length book → CanPut e ws (3 * k + 1) at book
+    can_put few all rest sum room =
+        let p = inside (length ws) e (entries_of (drop (k + 1) wss)) (rw on at rest) in
+        let little = total-few (length ws) (entries_of wss) all in
+        let count = entries_length wss in
+        let sum-on = ap total on in
+        record { short = p.short; inside = p.inside; entry = omega arith; body = omega arith; word = omega arith }
 
-  module _ {book : List ℕ} {at k : ℕ} (s : Standing n t ws (set book₀ 0 n) book at k) where
-    pub as_long : length book ≡ length book₀
-    as_long = s.long ∙ simp length-set
-
-    here : k < n → Inside (length ws) (entry_at t k) (rest t n (k + 1))
-    here h = inside (length ws) (entry_at t k) (rest t n (k + 1)) (rw (rest-one t n k h) at s.inside)
-
-    pub can_put : k < n → CanPut t k ws book at
-    can_put h =
-        let p = here h in
-        let few = total-few ws n t can.inside in
-        let sum = s.sum in
-        let sum-on = ap total (rest-one t n k h) in
-        let long = as_long in
-        let room = can.fits in
-        record {
-          there = omega (arith, can.holds.long);
-          short = p.short;
-          entry = omega arith;
-          inside = p.inside;
-          body = omega arith;
-          word = omega (arith, can.holds.few);
-        }
-
-    pub standing_on : k < n → {next : ℕ} {out : List ℕ} → next ≡ at + (entry_at t k).length → out ≡ with_scene ws (3 * k + 1) at (entry_at t k) book → Standing n t ws (set book₀ 0 n) out next (k + 1)
-    standing_on h {next} {out} next-is out-is =
-        let e : 3 * (k + 1) + 1 ≡ 3 + (3 * k + 1) = omega arith in
-        record {
-          upto = omega arith;
-          inside = (here h).rest;
-          sum = omega (arith, ap total (rest-one t n k h), s.sum);
-          long = ap length out-is ∙ simp length-sets s.long;
-          same = rw (next-is, out-is, e) (ap (λ (es : List Entry). with_scenes ws (3 * k + 1) at es book) (sym (rest-one t n k h)) ∙ s.same);
-        }
-
-    pub written : n ≤ k → book ≡ sets book₀ 0 (book_of (scenes_in ws (entries n t)))
-    written h =
-        let ss = scenes_in ws (entries n t) in
-        let long = contents-length (bodies_at n) ss in
-        let count = scenes-length ws n t in
-        let l : 1 + length (contents_of (bodies_at n) ss) ≡ bodies_at n = omega arith in
-        ap (λ (es : List Entry). with_scenes ws (3 * k + 1) at es book) (sym (rest_none t n k h))
-        ∙ s.same
-        ∙ scenes-put ws 1 (bodies_at n) (entries n t) (set book₀ 0 n) can.inside (omega arith)
-        ∙ rw (count, sets_append (set book₀ 0 n) 1 (contents_of (bodies_at n) ss) (bodies ss), l)
+  pub whole : (k : ℕ) (book before : List ℕ) (at : ℕ) → length wss ≤ k → in_buffer (length ws) (entries_of wss) ≡ true
+      → with_scenes ws (3 * k + 1) at (entries_of (drop k wss)) book ≡ with_scenes ws 1 (bodies_at (length wss)) (entries_of wss) (set before 0 (length wss))
+      → book ≡ with_book ws (entries_of wss) before
+  whole k book before at h all same =
+      let es = entries_of wss in
+      let ss = scenes_in ws es in
+      let count : length ss ≡ length wss = scenes-count ws es ∙ entries_length wss in
+      let long = contents-length (bodies_at (length wss)) ss in
+      let l : 1 + length (contents_of (bodies_at (length wss)) ss) ≡ bodies_at (length wss) = omega arith in
+      ap (λ (rest : List (List ℕ)). with_scenes ws (3 * k + 1) at (entries_of rest) book) (sym (drop_of_length-le wss h))
+      ∙ same
+      ∙ scenes-put ws 1 (bodies_at (length wss)) es (set before 0 (length wss)) all (omega arith)
+      ∙ rw (count, sets_append (set before 0 (length wss)) 1 (contents_of (bodies_at (length wss)) ss) (bodies ss), l)

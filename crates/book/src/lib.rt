@@ -3,259 +3,221 @@
 // Each rule on contents goes over all entries before the next. None looks at a body.
 #![tactic(auto)]
 
-ghost use Rattle.std.specs.Prelude.{◌≡◌, true, false, cond, ◌+◌, ◌-◌, ◌*◌, ◌≤◌, ◌<◌, length, drop};
-ghost use Rattle.std.proofs.lemmas.List.Edits.{sets};
-ghost use Rattle.rules.specs.Book.{book_answer, book_outcome, entries, rising, fault_of, count, in_place, bodies_at, no_scene, look_up, finding_scene, stretch};
-ghost use Rattle.rules.specs.Book.{book_of, scenes_in, in_buffer, writing_book, Holds, entry_at};
-ghost use Rattle.book.specs.Tables.{FirstFrom, book_size, CanWrite, CanPut, with_scene};
+ghost use Rattle.std.specs.Prelude.{◌≡◌, true, false, cond, ◌||◌, ltb, ◌+◌, ◌*◌, ◌^◌, ◌≤◌, ◌<◌, length, MatchResult};
+ghost use Rattle.rules.specs.Book.{book_outcome, entries, rising, in_place, bodies_at, asked, finding_scene, look_up, stretch};
+ghost use Rattle.rules.specs.Book.{in_buffer, writing_book};
+ghost use Rattle.rules.specs.Returned.{scene_answer_of, book_answer_of};
+ghost use Rattle.book.specs.Tables.{entry_of, entries_of, checked, told_of, book_size, size_or_fault, CanWrite, CanPut, with_scene, with_book};
 
-use rules::{BookAnswer, Entry, SceneAnswer};
+use rules::{Entry, Reason, Scene};
 
 // ---- the contents
 
-fn entry_at(table: &[u32], k: usize) -> Entry
-    requires { 3 * k + 3 ≤ length table.now }
-    ensures { result ≡ entry_at table.now k }
+fn entry_of(words: &[u32; 3]) -> Entry
+    ensures value { result ≡ entry_of words.now }
+    ensures fits { (result.start < 2 ^ 32) × (result.length < 2 ^ 32) }
 {
-    let at = 3 * k;
+    let [number, start, length] = *words;
     Entry {
-        number: table[at],
-        start: words::wide(table[at + 1]),
-        length: words::wide(table[at + 2]),
+        number,
+        start: words::wide(start),
+        length: words::wide(length),
     }
 }
 
-// Whether the numbers of n entries rise.
-fn rises(table: &[u32], n: usize) -> bool
-    requires { Holds n table.now }
-    ensures { result ≡ rising (entries n table.now) }
+// Whether the numbers of some entries rise.
+fn rises(entries: &[[u32; 3]]) -> bool
+    ensures { result ≡ rising (entries_of entries.now) }
 {
-    let mut least: usize = 0;
-    let mut k: usize = 0;
-    while k < n {
-        let number = words::wide(table[3 * k]);
-        if number < least {
-            return false;
-        }
-        least = number + 1;
-        k += 1;
+    entries.is_sorted_by(|e, next| e[0] < next[0])
+}
+
+// What is told where the first of some entries has its body out of place: the numbers come first.
+fn misplaced(entries: &[[u32; 3]]) -> Reason
+    ensures { result ≡ cond (rising (entries_of entries.now)) Reason.BodiesMisplaced Reason.NumbersFall }
+{
+    if rises(entries) {
+        Reason::BodiesMisplaced
+    } else {
+        Reason::NumbersFall
     }
-    true
+}
+
+// The entries of a table, three words each.
+#[derive(Clone, Copy)]
+struct Contents<'a> {
+    entries: &'a [[u32; 3]],
+    ghost few: { length entries.now ≤ 256 },
+}
+
+impl<'a> Contents<'a> {
+    // The first n entries that some words have.
+    fn new(words: &'a [u32], n: usize) -> Result<Contents<'a>, Reason>
+        ensures { let cut = ltb 256 n || ltb (length words.now) (3 * n) in
+            MatchResult result (λ c. (cut ≡ false) × (length c.entries.now ≡ n) × (entries_of c.entries.now ≡ entries n words.now))
+            (λ reason. (cut ≡ true) × (reason ≡ Reason.BadContents)) }
+    {
+        let (entries, _) = words.as_chunks::<3>();
+        if 256 < n || entries.len() < n {
+            return Err(Reason::BadContents);
+        }
+        Ok(Contents {
+            entries: &entries[..n],
+        })
+    }
+
+    // The fault of entries whose bodies go up to the end of a book. One pass asks for numbers and bodies: twice as many turns
+    // of a loop would take longer, by up to a half.
+    #[tactic(auto, using(crate::proofs::Entries::at_least_all))]
+    fn check(self, end: usize) -> Result<(), Reason>
+        ensures { let es = entries_of self.entry.entries.now in
+            result ≡ checked (rising es) (in_place (bodies_at (length self.entry.entries.now)) end es) }
+    {
+        let mut at = 1 + 3 * self.entries.len();
+        let mut least: usize = 0;
+        for (k, words) in self.entries.iter().enumerate() {
+            let e = entry_of(words);
+            let number = words::wide(e.number);
+            if number < least {
+                return Err(Reason::NumbersFall);
+            }
+            let fits = (e.length <= 4096) & (e.start == at);
+            if !fits {
+                return Err(misplaced(&self.entries[k..]));
+            }
+            least = number + 1;
+            at += e.length;
+        }
+        if at == end {
+            Ok(())
+        } else {
+            Err(Reason::BodiesMisplaced)
+        }
+    }
+
+    // The scene of a number, by halves.
+    fn find(self, number: u32) -> Result<Scene, Reason>
+        requires { rising (entries_of self.entries.now) ≡ true }
+        ensures { scene_answer_of result ≡ look_up number (entries_of self.entry.entries.now) }
+    {
+        let k = self.entries.partition_point(|e| e[0] < number);
+        let Some([found, start, length]) = self.entries.get(k) else {
+            return Err(Reason::NoScene);
+        };
+        if *found != number {
+            return Err(Reason::NoScene);
+        }
+        Ok(Scene {
+            start: *start,
+            length: *length,
+        })
+    }
+
+    // The words of the book of these entries.
+    #[tactic(auto, using(crate::proofs::Entries::entries_length))]
+    fn book_size(self, words: usize) -> Result<usize, Reason>
+        ensures { result ≡ size_or_fault words (entries_of self.entry.entries.now) }
+    {
+        let mut size = 1 + 3 * self.entries.len();
+        for entry in self.entries {
+            let e = entry_of(entry);
+            let fits = (e.length <= 4096) & (e.start + e.length <= words);
+            if !fits {
+                return Err(Reason::BodiesMisplaced);
+            }
+            size += e.length;
+        }
+        Ok(size)
+    }
+
+    // The book of these entries' scenes, where it fits.
+    #[tactic(auto, using(crate::proofs::Entries::entries_length))]
+    fn write(self, words: &[u32], book: &mut [u32])
+        requires { CanWrite (entries_of self.entries.now) words.now book.old }
+        ensures { book.new ≡ with_book words.now (entries_of self.entry.entries.now) book.old }
+    {
+        let n = self.entries.len();
+        book[0] = n as u32;
+        let mut at = 1 + 3 * n;
+        for (k, entry) in self.entries.iter().enumerate() {
+            at = write_scene(entry_of(entry), words, 3 * k + 1, at, book);
+        }
+    }
 }
 
 // ---- the reader
 
-// The first word, how many entries there are.
-fn count(book: &[u32]) -> u32
-    ensures { result ≡ count book.now }
-{
-    if book.len() == 0 {
-        return 0;
-    }
-    book[0]
-}
-
-// The fault where the body of entry k is not in its place: 24 only if the numbers rise from there on.
-fn misplaced(table: &[u32], n: usize, k: usize) -> u32
-    requires { Holds n table.now × (k < n) }
-    ensures { result ≡ cond (rising (entries (n - k) (drop (3 * k) table.now))) 24 23 }
-{
-    let at = 3 * k;
-    if rises(&table[at..], n - k) { 24 } else { 23 }
-}
-
-// The fault of n entries whose bodies go up to the end; 0 where there is none. One pass asks for numbers and bodies: twice as
-// many turns of a loop would take longer, by up to a half.
-fn contents_fault(table: &[u32], n: usize, end: usize) -> u32
-    requires { Holds n table.now }
-    ensures { result ≡ fault_of false (rising (entries n table.now)) (in_place (bodies_at n) end (entries n table.now)) }
-{
-    let mut at = 1 + 3 * n;
-    let mut least: usize = 0;
-    let mut k: usize = 0;
-    while k < n {
-        let e = entry_at(table, k);
-        let number = words::wide(e.number);
-        if number < least {
-            return 23;
-        }
-        let fits = (e.length <= 4096) & (e.start == at);
-        if !fits {
-            return misplaced(table, n, k);
-        }
-        least = number + 1;
-        at += e.length;
-        k += 1;
-    }
-    if at == end { 0 } else { 24 }
-}
-
-fn no_scene(verdict: u32) -> SceneAnswer
-    ensures { result ≡ no_scene verdict }
-{
-    SceneAnswer {
-        verdict,
-        start: 0,
-        length: 0,
-    }
-}
-
-// By halves, of n entries whose numbers rise, the first whose number is not below.
-fn first_from(table: &[u32], n: usize, number: u32) -> usize
-    requires { Holds n table.now × (rising (entries n table.now) ≡ true) }
-    ensures { FirstFrom table.now n number result }
-{
-    let mut low: usize = 0;
-    let mut high = n;
-    while low < high {
-        let middle = (low + high) / 2;
-        if table[3 * middle] < number {
-            low = middle + 1;
-        } else {
-            high = middle;
-        }
-    }
-    low
-}
-
-// The scene of a number among n entries whose numbers rise.
-fn look_up(table: &[u32], n: usize, number: u32) -> SceneAnswer
-    requires { Holds n table.now × (rising (entries n table.now) ≡ true) }
-    ensures { result ≡ look_up number (entries n table.now) }
-{
-    let k = first_from(table, n, number);
-    if k == n {
-        return no_scene(25);
-    }
-    let at = 3 * k;
-    if table[at] != number {
-        return no_scene(25);
-    }
-    SceneAnswer {
-        verdict: 0,
-        start: table[at + 1],
-        length: table[at + 2],
-    }
-}
-
 // Where a scene's words are in the book.
-pub fn find(book: &[u32], number: u32) -> SceneAnswer
-    ensures { result ≡ finding_scene book.now number }
+pub fn find(book: &[u32], number: u32) -> Result<Scene, Reason>
+    ensures { scene_answer_of result ≡ finding_scene book.now number }
 {
-    let n = words::wide(count(book));
-    if (256 < n) | (book.len() < 1 + 3 * n) {
-        return no_scene(22);
-    }
-    let table = &book[1..];
-    let fault = contents_fault(table, n, book.len());
-    if fault != 0 {
-        return no_scene(fault);
-    }
-    look_up(table, n, number)
+    let [count, table @ ..] = book else {
+        return Err(Reason::BadContents);
+    };
+    let contents = Contents::new(table, words::wide(*count))?;
+    contents.check(book.len())?;
+    contents.find(number)
 }
 
-// The scene's own stretch of the book, an empty one on refusal, and the verdict beside it.
+// The scene's own stretch of the book.
+pub fn find_words<'a>(book: &'a [u32], number: u32) -> Result<&'a [u32], Reason>
+    ensures { told_of result ≡ asked book.now number }
+{
+    let scene = find(book, number)?;
+    let start = words::wide(scene.start);
+    let end = start + words::wide(scene.length);
+    Ok(&book[start..end])
+}
+
+// The same, an empty stretch on refusal, and the verdict beside it.
+// stays: what may not change, the form of document 02's Ticket 8, which hands back a stretch, "an empty one on refusal"
 pub fn scene<'a>(book: &'a [u32], number: u32, verdict: &mut u32) -> &'a [u32]
     ensures result_value { result.now ≡ stretch book.now (finding_scene book.now number) }
     ensures verdict_value { verdict.new ≡ (finding_scene book.now number).verdict }
 {
-    let a = find(book, number);
-    *verdict = a.verdict;
-    let start = words::wide(a.start);
-    let end = start + words::wide(a.length);
-    &book[start..end]
+    match find_words(book, number) {
+        Ok(words) => {
+            *verdict = 0;
+            words
+        }
+        Err(reason) => {
+            *verdict = reason.number();
+            &[]
+        }
+    }
 }
 
 // ---- the writer
 
-// The words of the book of n entries; 0 where a body is too long or not inside a buffer of some words.
-fn book_size(table: &[u32], n: usize, words: usize) -> usize
-    requires { Holds n table.now }
-    ensures { result ≡ cond (in_buffer words (entries n table.now)) (book_size n table.now) 0 }
+// A scene's entry at word i of the book, and its body at a word. The answer is where the next one goes.
+fn write_scene(e: Entry, words: &[u32], i: usize, at: usize, book: &mut [u32]) -> usize
+    requires { CanPut e words.now i at book.old }
+    ensures value { result ≡ at + e.length }
+    ensures book_value { book.new ≡ with_scene words.now i at e book.old }
 {
-    let mut size = 1 + 3 * n;
-    let mut k: usize = 0;
-    while k < n {
-        let e = entry_at(table, k);
-        let fits = (e.length <= 4096) & (e.start + e.length <= words);
-        if !fits {
-            return 0;
-        }
-        size += e.length;
-        k += 1;
-    }
-    size
-}
-
-fn copy(from: &[u32], out: &mut [u32], at: usize)
-    requires { at + length from.now ≤ length out.old }
-    ensures { out.new ≡ sets out.old at from.now }
-{
-    let mut i: usize = 0;
-    while i < from.len() {
-        out[at + i] = from[i];
-        i += 1;
-    }
-}
-
-// Entry k of the book, and its body at a word. The answer is where the next one goes.
-fn write_scene(table: &[u32], k: usize, words: &[u32], book: &mut [u32], at: usize) -> usize
-    requires { CanPut table.now k words.now book.old at }
-    ensures value { result ≡ at + (entry_at table.now k).length }
-    ensures book_value { book.new ≡ with_scene words.now (3 * k + 1) at (entry_at table.now k) book.old }
-{
-    let e = entry_at(table, k);
-    let entry = 3 * k + 1;
-    book[entry] = e.number;
-    book[entry + 1] = at as u32;
-    book[entry + 2] = e.length as u32;
-    let start = e.start;
-    let end = start + e.length;
-    copy(&words[start..end], book, at);
+    book[i] = e.number;
+    book[i + 1] = at as u32;
+    book[i + 2] = e.length as u32;
+    book[at..at + e.length].copy_from_slice(&words[e.start..e.start + e.length]);
     at + e.length
 }
 
-// The book of n entries' scenes, where it fits.
-fn write_scenes(table: &[u32], n: usize, words: &[u32], book: &mut [u32])
-    requires { CanWrite n table.now words.now book.old }
-    ensures { book.new ≡ sets book.old 0 (book_of (scenes_in words.now (entries n table.now))) }
+// The book of a table's scenes, over a buffer where its starts count, and the words written.
+pub fn write_book(table: &[u32], words: &[u32], book: &mut [u32]) -> Result<usize, Reason>
+    ensures { book_outcome (book_answer_of result) book.new ≡ writing_book table.now words.now book.old }
 {
-    book[0] = n as u32;
-    let mut at = 1 + 3 * n;
-    let mut k: usize = 0;
-    while k < n {
-        at = write_scene(table, k, words, book, at);
-        k += 1;
+    let whole = table.len() % 3 == 0;
+    if !whole {
+        return Err(Reason::BadContents);
     }
-}
-
-fn no_book(verdict: u32) -> BookAnswer
-    ensures { result ≡ book_answer verdict 0 }
-{
-    BookAnswer { verdict, words: 0 }
-}
-
-// The book of a table's scenes, over a buffer where its starts count.
-pub fn write_book(table: &[u32], words: &[u32], book: &mut [u32]) -> BookAnswer
-    ensures { book_outcome result book.new ≡ writing_book table.now words.now book.old }
-{
-    let n = table.len() / 3;
-    if (table.len() % 3 != 0) | (256 < n) {
-        return no_book(22);
+    let contents = Contents::new(table, table.len() / 3)?;
+    if !rises(contents.entries) {
+        return Err(Reason::NumbersFall);
     }
-    if !rises(table, n) {
-        return no_book(23);
-    }
-    let size = book_size(table, n, words.len());
-    if size == 0 {
-        return no_book(24);
-    }
+    let size = contents.book_size(words.len())?;
     if book.len() < size {
-        return no_book(11);
+        return Err(Reason::NoRoom);
     }
-    write_scenes(table, n, words, book);
-    BookAnswer {
-        verdict: 0,
-        words: size,
-    }
+    contents.write(words, book);
+    Ok(size)
 }

@@ -8,25 +8,24 @@ use mathlib.Core.Bool.{Bool, true, false, cond}
 use mathlib.Core.List.{List, ◌∷◌}
 use mathlib.Core.Option.{none}
 use lib.Dec.{ltb}
+use Rattle.std.specs.Prelude.{Ok, Err}
 use borrow.Author.Tests.{le-ltb, lt-ltb, ltb-true, ltb-false}
 use lib.ListN.{length, get_or, take, drop, length-drop}
 use lib.Seq.{drop-cons, length-take-le}
-use Rattle.rules.specs.declared.Refusal.{Refusal}
-use Rattle.rules.specs.Word.{id_of, header_of, undefined}
+use Rattle.rules.specs.Verdict.{Refusal}
+use Rattle.rules.specs.Word.{id_of, header_of, undefined, lowest_undefined}
 use Rattle.rules.specs.Table.{row_of, is_setting, is_begin, is_base}
 use Rattle.rules.specs.Command.{payload, rest_size}
 use Rattle.rules.specs.Values.{refusal, undefined_bit, shift, first_fault, faults}
 use Rattle.rules.specs.Decode.{Decoded, bad, good, unknown, decode_row, decode}
 use Rattle.theory.proofs.Numbers.{faults_proper}
 use Rattle.table.specs.declared.Group.{Group}
-use Rattle.command.specs.declared.Decoded.{Decoded as Decoded'}
-use Rattle.command.specs.declared.Decoded.TheVariants.{Command, Refused}
 use Rattle.table.specs.Ids.{group_id}
-use Rattle.table.specs.Tables.{more, group, group_at, row_count, row_number, row_table, row_at, mask_at}
+use Rattle.table.specs.Tables.{more, group_at, row_count, row_number, row_at, mask_at}
 use Rattle.values.specs.First.{no_refusal, first_refusal, found}
 use Rattle.faults.specs.Faults.{own, any_undefined, first_undefined, value_fault}
 use Rattle.command.specs.View.{size_at, refused_at, single_of, group_of, if_legal, whole_group, view, decoded_at, KnownAt}
-use Rattle.table.proofs.Tables.{Known, known, unknown-row, row_at_lem}
+use Rattle.table.proofs.Tables.{Known, known, unknown-row}
 use Rattle.command.proofs.Sizes.{size-known, size-group, size-single}
 use Rattle.faults.proofs.FirstFault.{fault-is, undefined-found, undefined-first, defined_next, single-fault, first-fault}
 
@@ -92,7 +91,7 @@ module _ (l : List ℕ) (at id : ℕ) (ei : id ≡ id_of (get_or l at 0)) (small
           ∙ ap (view at) (first-fault _ fs whole (faults_proper (row_at id) h (own (row_at id) (group_at l at))))
 
       -- 6, 7 and 15 to 19
-      pub decoded_fault : found first_at ≡ true → decoded_at l at ≡ Refused (shift at first_at)
+      pub decoded_fault : found first_at ≡ true → decoded_at l at ≡ Err (shift at first_at)
       decoded_fault e = by_fault ∙ rw e
 
       module _ (clear : found first_at ≡ false) where
@@ -107,30 +106,30 @@ module _ (l : List ℕ) (at id : ℕ) (ei : id ≡ id_of (get_or l at 0)) (small
             no_fault ∙ rw (lt-ltb (length ws) (rest_size (row_at id) h ws) (omega (arith, length-drop (suc at) l)), add-zero at)
 
         pub decoded_command : size_at l at ≤ length l - at
-            → decoded_at l at ≡ Command (record { words = size_at l at; setting = is_setting (row_at id).kind; begin = is_begin (row_at id).kind; base = is_base id })
+            → decoded_at l at ≡ Ok (record { words = size_at l at; setting = is_setting (row_at id).kind; begin = is_begin (row_at id).kind; base = is_base id })
         decoded_command enough =
             let n : ℕ = rest_size (row_at id) h ws in
             let e : size_at l at ≡ suc n = size-known l at id ei small k in
             let o = own-length (group_id id) k.length_more in
             let f : n ≤ length ws = omega (arith, length-drop (suc at) l) in
             no_fault ∙ rw (le-ltb (length ws) n f)
-            (ap₂ (λ (m i : ℕ). Command (record { words = m; setting = is_setting (row_at id).kind; begin = is_begin (row_at id).kind; base = is_base i }))
+            (ap₂ (λ (m i : ℕ). Ok (record { words = m; setting = is_setting (row_at id).kind; begin = is_begin (row_at id).kind; base = is_base i }))
             (ap suc (length-take-le n ws f) ∙ sym e) k.own-id)
 
--- ---- by the table of rows lent
+-- ---- by the row of its id
 
-module _ (rows l : List ℕ) (at : ℕ) (lent : rows ≡ row_table) (inside : at < length l) {w : ℕ} (ew : w ≡ get_or l at 0) {id : ℕ} (iw : id ≡ id_of w) (fit : get_or l at 0 < 2 ^ 32) where
+module _ (l : List ℕ) (at : ℕ) (inside : at < length l) {w : ℕ} (ew : w ≡ get_or l at 0) {id : ℕ} (iw : id ≡ id_of w) {row : ℕ} (er : row ≡ row_number id) (fit : get_or l at 0 < 2 ^ 32) where
   ei : id ≡ id_of (get_or l at 0)
   ei = iw ∙ ap id_of ew
 
   small : id < 256
   small = omega (arith, ei, fit)
 
-  pub at_unknown : row_count ≤ get_or rows id 0 → {n : ℕ} → n ≡ unknown id → {d : Decoded'} → d ≡ refused_at n at → d ≡ decoded_at l at
-  at_unknown n em ed = ed ∙ ap (λ (k : ℕ). refused_at k at) em ∙ sym (decoded_unknown l at id ei small (omega (arith, row_at_lem id small rows lent)))
+  pub at_unknown : row_count ≤ row → {n : ℕ} → n ≡ unknown id → {b : ℕ} → b ≡ 32 → Err (record { number = n; word = at; bit = b }) ≡ decoded_at l at
+  at_unknown h em eb = rw eb (ap (λ (k : ℕ). refused_at k at) em) ∙ sym (decoded_unknown l at id ei small (omega (arith, er, h)))
 
-  pub at_known : get_or rows id 0 < row_count → KnownAt l at id (get_or rows id 0)
-  at_known n = record { inside = inside; id-is = ei; row_is = row_at_lem id small rows lent; known = n }
+  pub at_known : row < row_count → KnownAt l at id row
+  at_known h = record { inside = inside; id-is = ei; row_is = er; known = h }
 
 -- ---- a command of one word
 
@@ -147,13 +146,13 @@ module _ (l : List ℕ) (at id row : ℕ) (a : KnownAt l at id row) (small : id 
     by_bit = rw (k₁.length_more, single, eb, eh, em, a.row_is) (single-fault id (header_of (get_or l at 0)) k₁ single)
 
     -- 6
-    pub decoded_single_bad : b ≡ true → (f : Refusal) → f ≡ first_undefined row (group header 0 0 0) no_refusal → decoded_at l at ≡ Refused (shift at f)
-    decoded_single_bad t f ef =
+    pub decoded_single_bad : b ≡ true → decoded_at l at ≡ Err (record { number = 6; word = at; bit = lowest_undefined header m })
+    decoded_single_bad t =
         let is : first_at l at id a.id-is small k₁ fits_one ≡ undefined_bit 0 header m = by_bit ∙ ap (λ (x : Bool). cond x (undefined_bit 0 header m) no_refusal) t in
-        let u : undefined header (mask_at row 0) ≡ true = rw em at (sym eb ∙ t) in
-        decoded_fault l at id a.id-is small k₁ fits_one (ap found is) ∙ rw (is, ef, u, em)
+        decoded_fault l at id a.id-is small k₁ fits_one (ap found is ∙ refl) ∙ ap (λ (x : Refusal). Err (shift at x)) is
+        ∙ ap (λ (p : ℕ). Err (record { number = 6; word = p; bit = lowest_undefined header m })) (add-zero at)
 
-    pub decoded_single : b ≡ false → decoded_at l at ≡ single_of row
+    pub decoded_single : b ≡ false → decoded_at l at ≡ Ok (single_of row)
     decoded_single t =
         let one = size-single l at id a.id-is small single in
         let begin : is_begin (row_at id).kind ≡ false = rw single at k₁.apart in
@@ -184,11 +183,11 @@ module _ (l : List ℕ) (at id row : ℕ) (a : KnownAt l at id row) (small : id 
         ∙ sym (ap (λ (n : ℕ). first_undefined n g (value_fault id g)) a.row_is ∙ fault-is id g k₄ grouped)
 
     -- 6
-    pub group-undefined : b ≡ true → (f : Refusal) → f ≡ first_undefined row g no_refusal → decoded_at l at ≡ Refused (shift at f)
+    pub group-undefined : b ≡ true → (f : Refusal) → f ≡ first_undefined row g no_refusal → decoded_at l at ≡ Err (shift at f)
     group-undefined t f ef =
         let u = sym eb ∙ t in
         let is : first_here ≡ first_undefined row g no_refusal = first-is ∙ undefined-first row g u (value_fault id g) in
-        decoded_fault l at id a.id-is small k₄ fits_four (ap found is ∙ undefined-found row g u) ∙ ap (λ (x : Refusal). Refused (shift at x)) (is ∙ sym ef)
+        decoded_fault l at id a.id-is small k₄ fits_four (ap found is ∙ undefined-found row g u) ∙ ap (λ (x : Refusal). Err (shift at x)) (is ∙ sym ef)
 
     -- 7 and 15 to 19, then 9
     module _ (t : b ≡ false) (n : ℕ) (en : n ≡ payload id g.header (more g)) where
@@ -204,7 +203,7 @@ module _ (l : List ℕ) (at id row : ℕ) (a : KnownAt l at id row) (small : id 
       whole_is e =
           let clear = ap found value_is ∙ e in
           let base : is_base id ≡ false = rw grouped at k₄.apart in
-          (elim (ltb (length l) (at + (4 + n))) as (λ t. ltb (length l) (at + (4 + n)) ≡ t → decoded_at l at ≡ cond t (refused_at 9 at) (group_of (4 + n) row)) [
+          (elim (ltb (length l) (at + (4 + n))) as (λ t. ltb (length l) (at + (4 + n)) ≡ t → decoded_at l at ≡ cond t (refused_at 9 at) (Ok (group_of (4 + n) row))) [
             | true ↦ λ c. decoded_short l at id a.id-is small k₄ fits_four clear (omega (arith, ltb-true (length l) (at + (4 + n)) c, size_is, a.inside))
             | false ↦ λ c. decoded_command l at id a.id-is small k₄ fits_four clear (omega (arith, ltb-false (length l) (at + (4 + n)) c, size_is))
                 ∙ rw (size_is, base, k₄.begins, k₄.setting-row, grouped, a.row_is)
@@ -212,11 +211,11 @@ module _ (l : List ℕ) (at id row : ℕ) (a : KnownAt l at id row) (small : id 
 
       pub group_valued : decoded_at l at ≡ if_legal at id g (whole_group l at (4 + n) row)
       group_valued =
-          (elim (found (value_fault id g)) as (λ t. found (value_fault id g) ≡ t → decoded_at l at ≡ cond t (Refused (shift at (value_fault id g))) (whole_group l at (4 + n) row)) [
-            | true ↦ λ e. decoded_fault l at id a.id-is small k₄ fits_four (ap found value_is ∙ e) ∙ ap (λ (x : Refusal). Refused (shift at x)) value_is
+          (elim (found (value_fault id g)) as (λ t. found (value_fault id g) ≡ t → decoded_at l at ≡ cond t (Err (shift at (value_fault id g))) (whole_group l at (4 + n) row)) [
+            | true ↦ λ e. decoded_fault l at id a.id-is small k₄ fits_four (ap found value_is ∙ e) ∙ ap (λ (x : Refusal). Err (shift at x)) value_is
             | false ↦ λ e. whole_is e
           ]) refl
 
       -- one without payload
-      pub group_fixed : n ≡ 0 → decoded_at l at ≡ if_legal at id g (group_of 4 row)
+      pub group_fixed : n ≡ 0 → decoded_at l at ≡ if_legal at id g (Ok (group_of 4 row))
       group_fixed z = group_valued ∙ rw (z, le-ltb (length l) (at + 4) four)

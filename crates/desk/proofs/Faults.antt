@@ -9,26 +9,26 @@ use lib.Dec.{eqb, ltb}
 use lib.ListN.{length, take, replicate, length-replicate}
 use lib.Seq.{sets, take_all, length-sets, length-take-le}
 use borrow.Author.Tests.{ltb-false, eqb-true}
-use Rattle.rules.specs.declared.Refusal.{Refusal}
+use Rattle.std.specs.Prelude.{Result, Ok, Err}
+use Rattle.rules.specs.declared.Refusal.{Refusal as Returned}
+use Rattle.rules.specs.Verdict.{Refusal}
 use Rattle.rules.specs.Values.{refusal}
-use Rattle.rules.specs.Answer.{refused_answer}
+use Rattle.rules.specs.Returned.{numbered_refusal, numbered, answer_of}
 use Rattle.endian.specs.Words.{words_of}
 use Rattle.endian.proofs.Words.{words-length, words_front}
 use Rattle.desk.specs.declared.Task.{Task}
 use Rattle.desk.specs.declared.Task.TheVariants.{Show, Image, Normalise, Pci, List as Pairs}
-use Rattle.desk.specs.declared.Fault.{Fault}
-use Rattle.desk.specs.declared.Fault.TheVariants.{Found, Nothing}
 use Rattle.desk.specs.Desk.{make, perform, most, size_refusal, made}
-use Rattle.desk.specs.Faults.{fault_of}
+use Rattle.desk.specs.Sized.{unless}
 use Rattle.desk.proofs.Written.{front}
 
-fault-found : (o : Option Refusal) (f : Refusal) → fault_of o ≡ Found f → o ≡ some f
-fault-found (some g) f e = cc
-fault-found none f e = cc
+passed : (o : Option Refusal) → unless o ≡ Ok tt → o ≡ none
+passed (some f) e = cc
+passed none e = refl
 
-fault-nothing : (o : Option Refusal) → fault_of o ≡ Nothing → o ≡ none
-fault-nothing (some g) e = cc
-fault-nothing none e = refl
+failed : (o : Option Refusal) (f : Refusal) → unless o ≡ Err f → o ≡ some f
+failed (some g) f e = cc
+failed none f e = cc
 
 most-bound : (t : Task) → most t ≤ 32775
 most-bound Show = omega arith
@@ -61,16 +61,16 @@ registers_are image h =
 
 -- ---- as the code finds them
 
-module _ (task : Task) (input image : List ℕ) {l : ℕ} {r : Fault} (el : l ≡ most task) (er : r ≡ fault_of (size_refusal l (length input) (length image))) where
-  told : r ≡ fault_of (size_refusal (most task) (length input) (length image))
+module _ (task : Task) (input image : List ℕ) {l : ℕ} (r : Result (Unit {0}) Returned) (el : l ≡ most task) (er : numbered r ≡ unless (size_refusal l (length input) (length image))) where
+  told : numbered r ≡ unless (size_refusal (most task) (length input) (length image))
   told = rw el at er
 
-  pub made-refused : {f : Refusal} → r ≡ Found f → made task input image ≡ make (refused_answer f) [] [] (length image) []
+  pub made-refused : {f : Returned} → r ≡ Err f → made task input image ≡ make (answer_of (Err f)) [] [] (length image) []
   unfolding made
-  made-refused {f} e = rw (fault-found (size_refusal (most task) (length input) (length image)) f (sym told ∙ e))
+  made-refused {f} e = rw (failed (size_refusal (most task) (length input) (length image)) (numbered_refusal f) (sym told ∙ ap numbered e))
 
-  pub size_none : r ≡ Nothing → size_refusal (most task) (length input) (length image) ≡ none
-  size_none e = fault-nothing (size_refusal (most task) (length input) (length image)) (sym told ∙ e)
+  pub size_none : r ≡ Ok tt → size_refusal (most task) (length input) (length image) ≡ none
+  size_none e = passed (size_refusal (most task) (length input) (length image)) (sym told ∙ ap numbered e)
 
 -- where no size is refused: the words that are handed on, and their number
 module _ (task : Task) (input image : List ℕ) (e : size_refusal (most task) (length input) (length image) ≡ none) where

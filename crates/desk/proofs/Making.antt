@@ -1,14 +1,18 @@
--- What is made of an answer.
+-- What is made of a refusal, and of an acceptance.
 use Prim.Native.Nat.{ℕ, ◌*◌, ◌≤◌}
 use native.Mathlib.Omega.{arith}
-use mathlib.Core.Path.{◌≡◌, refl, ap, sym}
-use mathlib.Core.Bool.{true, false, cond}
-use mathlib.Core.List.{List, [], ◌∷◌, ◌++◌, append-nil}
+use mathlib.Core.Path.{◌≡◌, refl, ap, sym, subst}
+use mathlib.Core.Bool.{false, cond}
+use mathlib.Core.List.{List, [], ◌∷◌, append-nil}
 use lib.Dec.{eqb}
 use lib.ListN.{length, length-append}
-use lib.Seq.{sets, length-sets}
-use borrow.Author.Tests.{eq-eqb, ne_eqb}
-use Rattle.rules.specs.declared.Answer.{Answer}
+use lib.Seq.{sets}
+use Rattle.std.specs.Prelude.{Ok, Err, Some, None}
+use Rattle.rules.specs.declared.Reason.{Reason}
+use Rattle.rules.specs.declared.Reason.TheVariants as reason
+use Rattle.rules.specs.declared.Refusal.{Refusal as Returned}
+use Rattle.rules.specs.declared.Accepted.{Accepted}
+use Rattle.rules.specs.Returned.{number_of, answer_of}
 use Rattle.endian.specs.Words.{bytes_of}
 use Rattle.endian.proofs.Bytes.{bytes-length}
 use Rattle.text.specs.Text.{ascii}
@@ -19,67 +23,78 @@ use Rattle.format.proofs.Lengths.{formatted-length}
 use Rattle.verdict.specs.Verdict.{verdict_text}
 use Rattle.verdict.proofs.Lengths.{verdict-length}
 use Rattle.desk.specs.declared.Sizes.{Sizes}
-use Rattle.desk.specs.Desk.{Made, make}
+use Rattle.desk.specs.Desk.{make}
 use Rattle.desk.specs.Makes.{Makes}
 
-module _ (a : Answer) (ws pairs : List ℕ) (bytes : ℕ) (words : List ℕ) (few : length words ≤ 8192) where
-  abbrev written_line : List ℕ
-  written_line = formatted [] (ascii "written %d words\n") (length words ∷ [])
+refused-number : (r : Reason) → eqb (number_of r) 0 ≡ false
+refused-number reason.TooManyWords = refl
+refused-number reason.ImageSize = refl
+refused-number reason.UnknownId = refl
+refused-number reason.PciOnly = refl
+refused-number reason.GroupCut = refl
+refused-number (reason.UndefinedBit bit) = refl
+refused-number reason.IllegalValue = refl
+refused-number reason.PayloadCut = refl
+refused-number reason.NoBegin = refl
+refused-number reason.NoRoom = refl
+refused-number reason.BrokenWord = refl
+refused-number reason.WrongAddress = refl
+refused-number reason.CommandCut = refl
+refused-number reason.PageMaximum = refl
+refused-number reason.PageMinimum = refl
+refused-number reason.RasterBits = refl
+refused-number reason.FloatBit = refl
+refused-number reason.PlaneRange = refl
+refused-number reason.OutsideBuffer = refl
+refused-number reason.NoSuchMode = refl
+refused-number reason.BadContents = refl
+refused-number reason.NumbersFall = refl
+refused-number reason.BodiesMisplaced = refl
+refused-number reason.NoScene = refl
 
-  written_bound : length written_line ≤ 60
-  written_bound = omega (arith, formatted-length [] 0 refl (ascii "written %d words\n") (length words ∷ []))
+abbrev written_line : List ℕ → List ℕ
+written_line words = formatted [] (ascii "written %d words\n") (length words ∷ [])
 
-  module _ {text₀ out₀ text out : List ℕ} {n : ℕ} (put : Puts (verdict_text a ws pairs bytes) text₀ 0 text n) (stored : out ≡ sets out₀ 0 (bytes_of words)) where
-    pub makes_refused : eqb a.verdict 0 ≡ false
-        → Makes (make a ws pairs bytes words) text₀ out₀ text out (record { writes = eqb a.verdict 0; verdict = n; text = n; out = 4 * length words })
-    makes_refused e =
-        rw e
-        (record {
-          writes-is = refl;
-          text-is = rw (append-nil (verdict_text a ws pairs bytes)) put.text-is;
-          verdict-size = omega (arith, put.next-is);
-          text-size = rw (append-nil (verdict_text a ws pairs bytes)) (omega (arith, put.next-is));
-          out-is = stored;
-          out-size = sym (bytes-length words);
-          text-bound = rw (append-nil (verdict_text a ws pairs bytes)) (omega (arith, verdict-length a ws pairs bytes));
-          out-bound = omega (arith, bytes-length words);
-        })
+pub written_bound : (words : List ℕ) → length (written_line words) ≤ 60
+written_bound words = omega (arith, formatted-length [] 0 refl (ascii "written %d words\n") (length words ∷ []))
 
-    pub makes_accepted : {text' : List ℕ} {k : ℕ} → eqb a.verdict 0 ≡ true → Puts written_line text n text' k
-        → Makes (make a ws pairs bytes words) text₀ out₀ text' out (record { writes = eqb a.verdict 0; verdict = n; text = k; out = 4 * length words })
-    makes_accepted {text'} {k} e more =
-        let p : Puts (verdict_text a ws pairs bytes ++ written_line) text₀ 0 text' k = puts_then put more in
-        rw e
-        (record {
-          writes-is = refl;
-          text-is = p.text-is;
-          verdict-size = omega (arith, put.next-is);
-          text-size = omega (arith, p.next-is);
-          out-is = stored;
-          out-size = sym (bytes-length words);
-          text-bound = omega (arith, length-append (verdict_text a ws pairs bytes) written_line, verdict-length a ws pairs bytes, written_bound);
-          out-bound = omega (arith, bytes-length words);
-        })
+module _ (ws pairs : List ℕ) (bytes : ℕ) {text₀ text out : List ℕ} {n : ℕ} where
+  pub makes_refused : (f : Returned) → Puts (verdict_text (answer_of (Err f)) ws pairs bytes) text₀ 0 text n
+      → Makes (make (answer_of (Err f)) ws pairs bytes []) text₀ out text out (record { verdict = n; text = n; out = None })
+  unfolding bytes_of
+  makes_refused f put =
+      let shown : List ℕ = verdict_text (answer_of (Err f)) ws pairs bytes in
+      rw (refused-number f.reason)
+      (record {
+        text-is = rw (append-nil shown) put.text-is;
+        verdict-size = omega (arith, put.next-is);
+        text-size = rw (append-nil shown) (omega (arith, put.next-is));
+        out-is = refl;
+        unwritten = λ e. refl;
+        out-size = refl;
+        text-bound = rw (append-nil shown) (omega (arith, verdict-length (answer_of (Err f)) ws pairs bytes));
+        out-bound = omega arith;
+      })
 
--- ---- the image after a list
+  pub makes_accepted : (a : Accepted) (words : List ℕ) {text' out₀ : List ℕ} {k : ℕ} → length words ≤ 8192
+      → Puts (verdict_text (answer_of (Ok a)) ws pairs bytes) text₀ 0 text n → Puts (written_line words) text n text' k → out ≡ sets out₀ 0 (bytes_of words)
+      → Makes (make (answer_of (Ok a)) ws pairs bytes words) text₀ out₀ text' out (record { verdict = n; text = k; out = Some (4 * length words) })
+  makes_accepted a words few put more stored =
+      let p = puts_then put more in
+      let shown : List ℕ = verdict_text (answer_of (Ok a)) ws pairs bytes in
+      record {
+        text-is = p.text-is;
+        verdict-size = omega (arith, put.next-is);
+        text-size = omega (arith, p.next-is);
+        out-is = stored;
+        unwritten = λ e. cc;
+        out-size = ap Some (sym (bytes-length words));
+        text-bound = omega (arith, length-append shown (written_line words), verdict-length (answer_of (Ok a)) ws pairs bytes, written_bound words);
+        out-bound = omega (arith, bytes-length words);
+      }
 
-module _ (ws : List ℕ) (a : Answer) (image : List ℕ) {text₀ out₀ text out : List ℕ} {s : Sizes} where
-  pub image-refused : (a.verdict ≡ 0 → ⊥) → Makes (make a ws [] 1024 []) text₀ out₀ text out s
-      → Makes (make a ws [] 1024 (cond (eqb a.verdict 0) image [])) text₀ out₀ text out s
-  image-refused h m = rw (ne_eqb a.verdict 0 h) (rw (ne_eqb a.verdict 0 h) at m)
-
-  pub image-accepted : a.verdict ≡ 0 → Makes (make a ws [] 1024 image) text₀ out₀ text out s
-      → Makes (make a ws [] 1024 (cond (eqb a.verdict 0) image [])) text₀ out₀ text out s
-  image-accepted h m = rw (eq-eqb a.verdict 0 h) (rw (eq-eqb a.verdict 0 h) at m)
-
--- ---- sizes
-
-module _ {m : Made} {text₀ out₀ text out : List ℕ} {s : Sizes} (k : Makes m text₀ out₀ text out s) where
-  pub text-fits : 310000 ≤ length text₀ → s.text ≤ length text
-  text-fits h = omega (arith, h, k.text-size, k.text-bound, ap length k.text-is, length-sets text₀ 0 (m.verdict ++ m.done))
-
-  pub verdict-fits : s.verdict ≤ s.text
-  verdict-fits = omega (arith, k.verdict-size, k.text-size, length-append m.verdict m.done)
-
-  pub out-fits : 32768 ≤ length out₀ → s.out ≤ length out
-  out-fits h = omega (arith, h, k.out-size, k.out-bound, ap length k.out-is, length-sets out₀ 0 m.out)
+-- the image after a list that is refused
+pub image_refused : (ws : List ℕ) (f : Returned) (image : List ℕ) {text₀ out₀ text out : List ℕ} {s : Sizes} → Makes (make (answer_of (Err f)) ws [] 1024 []) text₀ out₀ text out s
+    → Makes (make (answer_of (Err f)) ws [] 1024 (cond (eqb (number_of f.reason) 0) image [])) text₀ out₀ text out s
+image_refused ws f image {text₀} {out₀} {text} {out} {s} m =
+    subst (λ b. Makes (make (answer_of (Err f)) ws [] 1024 (cond b image [])) text₀ out₀ text out s) (sym (refused-number f.reason)) m

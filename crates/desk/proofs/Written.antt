@@ -30,17 +30,17 @@ module _ (made : List Command → List ℕ) (ws image buffer : List ℕ) (small 
   fits_parsed (refused f) = record { inside = omega arith; few = omega arith }
   fits_parsed (accepted cs) = fits-room cs (ltb (length buffer) (length (made cs))) refl
 
-pub fits-form : (ws image : List ℕ) (o : Outcome) → o ≡ normalising ws image (replicate 4096 0) → Fits o
+pub fits_form : (ws image : List ℕ) (o : Outcome) → o ≡ normalising ws image (replicate 4096 0) → Fits o
 unfolding normalising
-fits-form ws image o e = rw e (fits_parsed (λ cs. words_all (form image cs)) ws image (replicate 4096 0) (omega (arith, length-replicate {A = ℕ} 4096 0)) (parse image ws))
+fits_form ws image o e = rw e (fits_parsed (λ cs. words_all (form image cs)) ws image (replicate 4096 0) (omega (arith, length-replicate {A = ℕ} 4096 0)) (parse image ws))
 
 pub fits_pairs : (ws image : List ℕ) (o : Outcome) → o ≡ to_pci ws image (replicate 8192 0) → Fits o
 unfolding to_pci
 fits_pairs ws image o e = rw e (fits_parsed pairs_all ws image (replicate 8192 0) (omega (arith, length-replicate {A = ℕ} 8192 0)) (parse image ws))
 
-pub fits-list : (ps image : List ℕ) (o : Outcome) → o ≡ from_pci ps image (replicate 4096 0) → Fits o
+pub fits_list : (ps image : List ℕ) (o : Outcome) → o ≡ from_pci ps image (replicate 4096 0) → Fits o
 unfolding from_pci
-fits-list ps image o e = rw e (fits_parsed (λ cs. values ps) (values ps) image (replicate 4096 0) (omega (arith, length-replicate {A = ℕ} 4096 0)) (parse_pairs image ps))
+fits_list ps image o e = rw e (fits_parsed (λ cs. values ps) (values ps) image (replicate 4096 0) (omega (arith, length-replicate {A = ℕ} 4096 0)) (parse_pairs image ps))
 
 -- what is put in front stands there
 pub front : (vs before : List ℕ) (n : ℕ) → length vs ≡ n → n ≤ length before → take n (sets before 0 vs) ≡ vs

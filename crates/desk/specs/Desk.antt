@@ -1,8 +1,8 @@
 -- What the tool makes of the bytes of two files: a text, and the bytes to write.
 use Rattle.std.specs.Prelude.{ℕ, ◌/◌, ◌%◌, Bool, false, cond, List, [], ◌∷◌, eqb, ltb, length, replicate}
 use Rattle.std.proofs.Math.Option.{Option, none, some}
-use Rattle.rules.specs.declared.Answer.{Answer}
-use Rattle.rules.specs.declared.Refusal.{Refusal}
+use Rattle.rules.specs.Verdict.{Answer}
+use Rattle.rules.specs.Verdict.{Refusal}
 use Rattle.rules.specs.Values.{refusal}
 use Rattle.rules.specs.Answer.{Outcome, refused_answer, reading, normalising, written}
 use Rattle.rules.specs.Pci.{values, to_pci, from_pci}

@@ -1,3 +1,4 @@
 pub mod Desk
 pub mod Makes
-pub mod Faults
+pub mod Sized
+pub mod Task

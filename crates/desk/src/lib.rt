@@ -2,14 +2,17 @@
 #![tactic(auto)]
 
 ghost use Rattle.std.specs.Prelude.{◌≡◌, List, [], ℕ, ◌≤◌, length};
+ghost use Rattle.rules.specs.Returned.{answer_of, numbered};
 ghost use Rattle.desk.specs.declared.Task.TheVariants as task;
 ghost use Rattle.desk.specs.Desk.{make, perform, most, size_refusal, made};
-ghost use Rattle.desk.specs.Faults.{fault_of};
+ghost use Rattle.desk.specs.Sized.{unless};
 ghost use Rattle.desk.specs.Makes.{Makes};
+ghost use Rattle.desk.specs.Task.{IsNumbered};
 
-use rules::{Answer, NO_BIT, Refusal};
+use rules::{Accepted, Reason, Refusal};
+use text::Writer;
 
-#[derive(Clone, Copy)]
+#[derive(Clone, Copy, Debug, PartialEq, Eq)]
 pub enum Task {
     Show,
     Image,
@@ -18,65 +21,81 @@ pub enum Task {
     List,
 }
 
-// Whether there are bytes to write; the bytes of the verdict's text, of the whole text, and of what is to be written.
+// A number that no task has.
+#[derive(Clone, Copy, Debug, PartialEq, Eq)]
+pub struct UnknownTask(pub u8);
+
+impl TryFrom<u8> for Task {
+    type Error = UnknownTask;
+
+    ghost try_from_gives = { IsNumbered };
+
+    fn try_from(number: u8) -> Result<Task, UnknownTask> {
+        match number {
+            0 => Ok(Task::Show),
+            1 => Ok(Task::Image),
+            2 => Ok(Task::Normalise),
+            3 => Ok(Task::Pci),
+            4 => Ok(Task::List),
+            _ => Err(UnknownTask(number)),
+        }
+    }
+}
+
+// The room for any text, and for the bytes of any words to write.
+pub const TEXT: usize = 310000;
+
+pub const WORDS: usize = 32768;
+
+// The bytes of the verdict's text, of the whole text, and of what is to be written, if anything is.
+// stays: sizes beside the lent buffers and no parts of them, since `Makes` speaks of the buffers' other bytes too
 #[derive(Clone, Copy)]
 pub struct Sizes {
-    pub writes: bool,
     pub verdict: usize,
     pub text: usize,
-    pub out: usize,
+    pub out: Option<usize>,
 }
 
 // ---- a text and bytes
 
-// Room for any text. Only its length is told, which lending it needs.
-pub fn text_buffer() -> [u8; 310000]
-    ensures { 310000 ≡ length result }
+// The text of a refusal, of a list or of pairs and the list that they carry, with an image of some bytes.
+fn refuse(f: Refusal, list: &[u32], pairs: &[u32], bytes: usize, text: &mut [u8]) -> Sizes
+    ensures { (out : List ℕ) → Makes (make (answer_of (Err f)) list.now pairs.now bytes []) text.old out text.new out result }
 {
-    [0; 310000]
+    let size = verdict::put_verdict(text, Err(f), list, pairs, bytes);
+    Sizes {
+        verdict: size,
+        text: size,
+        out: None,
+    }
 }
 
-// Room for any words to write.
-pub fn word_buffer() -> [u8; 32768]
-    ensures { 32768 ≡ length result }
-{
-    [0; 32768]
-}
-
-// The text of an answer, and the bytes of the words to write.
-fn finish(
-    a: Answer,
+// The text of an acceptance, and the bytes of the words to write.
+fn accept(
+    a: Accepted,
     list: &[u32],
     pairs: &[u32],
-    bytes: usize,
     words: &[u32],
     text: &mut [u8],
-    out: &mut [u8; 32768],
+    out: &mut [u8; WORDS],
 ) -> Sizes
     requires { length words.now ≤ 8192 }
-    ensures { Makes (make a list.now pairs.now bytes words.now) text.old out.old text.new out.new result }
+    ensures { Makes (make (answer_of (Ok a)) list.now pairs.now 1024 words.now) text.old out.old text.new out.new result }
 {
-    let verdict = verdict::put_verdict(text, a, list, pairs, bytes);
+    let verdict = verdict::put_verdict(text, Ok(a), list, pairs, 1024);
     endian::store(words, out);
-    let writes = a.verdict == 0;
-    if !writes {
-        return Sizes {
-            writes,
-            verdict,
-            text: verdict,
-            out: 4 * words.len(),
-        };
-    }
-    let size = format::put_format(text, verdict, b"", b"written %d words\n", &[words.len()]);
+    let mut writer = Writer::new(text, verdict);
+    format::put_format(&mut writer, b"", b"written %d words\n", &[words.len()]);
     Sizes {
-        writes,
         verdict,
-        text: size,
-        out: 4 * words.len(),
+        text: writer.position(),
+        out: Some(4 * words.len()),
     }
 }
 
 // ---- tasks
+// stays: a list, an image and two buffers, of which `run` is lent two and makes two: a struct of them would be made for one
+// call and taken apart in each task
 
 // At most 310,000 bytes of text, and none to write.
 fn show(list: &[u32], image: &[u32; 256], text: &mut [u8]) -> Sizes
@@ -84,66 +103,56 @@ fn show(list: &[u32], image: &[u32; 256], text: &mut [u8]) -> Sizes
 {
     let size = show::put_show(text, list, image);
     Sizes {
-        writes: false,
         verdict: size,
         text: size,
-        out: 0,
+        out: None,
     }
 }
 
-fn finish_image(
-    a: Answer,
-    list: &[u32],
-    after: &[u32; 256],
-    text: &mut [u8],
-    out: &mut [u8; 32768],
-) -> Sizes
-    ensures { Makes (make a list.now [] 1024 after.now) text.old out.old text.new out.new result }
-{
-    finish(a, list, &[], 1024, after, text, out)
-}
-
-fn image_after(list: &[u32], image: &[u32; 256], text: &mut [u8], out: &mut [u8; 32768]) -> Sizes
+fn image_after(list: &[u32], image: &[u32; 256], text: &mut [u8], out: &mut [u8; WORDS]) -> Sizes
     ensures { Makes (perform task.Image list.now image.now) text.old out.old text.new out.new result }
 {
     let mut after = *image;
     let mut records = [0u32; 16384];
-    let a = show::read(list, &mut after, &mut records);
-    if a.verdict != 0 {
-        return finish(a, list, &[], 1024, &[], text, out);
+    match show::read(list, &mut after, &mut records) {
+        Ok(a) => accept(a, list, &[], &after, text, out),
+        Err(f) => refuse(f, list, &[], 1024, text),
     }
-    finish_image(a, list, &after, text, out)
 }
 
-fn normalise(list: &[u32], image: &[u32; 256], text: &mut [u8], out: &mut [u8; 32768]) -> Sizes
+// stays: it and `to_pci` differ in their calls too; with the call as a closure the clauses would name what it writes by `F.post`
+fn normalise(list: &[u32], image: &[u32; 256], text: &mut [u8], out: &mut [u8; WORDS]) -> Sizes
     ensures { Makes (perform task.Normalise list.now image.now) text.old out.old text.new out.new result }
 {
     let mut form = [0u32; 4096];
-    let a = form::normalise(list, image, &mut form);
-    let k = a.words;
-    finish(a, list, &[], 1024, &form[..k], text, out)
+    match form::normalise(list, image, &mut form) {
+        Ok(a) => accept(a, list, &[], &form[..a.words], text, out),
+        Err(f) => refuse(f, list, &[], 1024, text),
+    }
 }
 
-fn to_pci(list: &[u32], image: &[u32; 256], text: &mut [u8], out: &mut [u8; 32768]) -> Sizes
+fn to_pci(list: &[u32], image: &[u32; 256], text: &mut [u8], out: &mut [u8; WORDS]) -> Sizes
     ensures { Makes (perform task.Pci list.now image.now) text.old out.old text.new out.new result }
 {
     let mut pairs = [0u32; 8192];
-    let a = pci_writer::to_pci(list, image, &mut pairs);
-    let k = a.words;
-    finish(a, list, &[], 1024, &pairs[..k], text, out)
+    match pci_writer::to_pci(list, image, &mut pairs) {
+        Ok(a) => accept(a, list, &[], &pairs[..a.words], text, out),
+        Err(f) => refuse(f, list, &[], 1024, text),
+    }
 }
 
-fn from_pci(pairs: &[u32], image: &[u32; 256], text: &mut [u8], out: &mut [u8; 32768]) -> Sizes
+fn from_pci(pairs: &[u32], image: &[u32; 256], text: &mut [u8], out: &mut [u8; WORDS]) -> Sizes
     requires { length pairs.now ≤ 8193 }
     ensures { Makes (perform task.List pairs.now image.now) text.old out.old text.new out.new result }
 {
-    let mut list = [0u32; 4096];
-    let a = pci_reader::from_pci(pairs, image, &mut list);
     let mut carried = [0u32; 4096];
     pci_reader::write_values(pairs, &mut carried);
-    let n = pairs.len() / 2;
-    let k = a.words;
-    finish(a, &carried[..n], pairs, 1024, &list[..k], text, out)
+    let carried = &carried[..pairs.len() / 2];
+    let mut list = [0u32; 4096];
+    match pci_reader::from_pci(pairs, image, &mut list) {
+        Ok(a) => accept(a, carried, pairs, &list[..a.words], text, out),
+        Err(f) => refuse(f, carried, pairs, 1024, text),
+    }
 }
 
 // ---- the whole
@@ -153,7 +162,7 @@ fn perform(
     words: &[u32],
     image: &[u32; 256],
     text: &mut [u8],
-    out: &mut [u8; 32768],
+    out: &mut [u8; WORDS],
 ) -> Sizes
     requires { length words.now ≤ 8193 }
     ensures { Makes (perform task words.now image.now) text.old out.old text.new out.new result }
@@ -172,60 +181,47 @@ pub fn most(task: Task) -> usize
     ensures { (result ≡ most task) × (result ≤ 32775) }
 {
     match task {
-        Task::Show => 16384,
-        Task::Image => 16384,
-        Task::Normalise => 16384,
-        Task::Pci => 16384,
         Task::List => 32775,
+        _ => 16384,
     }
-}
-
-#[derive(Clone, Copy)]
-enum Fault {
-    Found(Refusal),
-    Nothing,
 }
 
 // Refusals 1, 12 and 2, by the sizes of the files.
-fn size_fault(limit: usize, input: usize, image: usize) -> Fault
-    ensures { result ≡ fault_of (size_refusal limit input image) }
+#[tactic(auto, unfolding(crate::specs::Desk::size_refusal))]
+fn check_sizes(limit: usize, input: usize, image: usize) -> Result<(), Refusal>
+    ensures { numbered result ≡ unless (size_refusal limit input image) }
 {
     if limit < input {
-        return Fault::Found(Refusal {
-            number: 1,
+        return Err(Refusal {
+            reason: Reason::TooManyWords,
             word: 4096,
-            bit: NO_BIT,
         });
     }
     if input % 4 != 0 {
-        return Fault::Found(Refusal {
-            number: 12,
+        return Err(Refusal {
+            reason: Reason::BrokenWord,
             word: input / 4,
-            bit: NO_BIT,
         });
     }
     if image != 1024 {
-        return Fault::Found(Refusal {
-            number: 2,
+        return Err(Refusal {
+            reason: Reason::ImageSize,
             word: 0,
-            bit: NO_BIT,
         });
     }
-    Fault::Nothing
+    Ok(())
 }
 
 // What a task makes of the bytes of a list, or of pairs, and of an image: at most 310,000 bytes of text.
-pub fn run(task: Task, input: &[u8], image: &[u8], text: &mut [u8], out: &mut [u8; 32768]) -> Sizes
+pub fn run(task: Task, input: &[u8], image: &[u8], text: &mut [u8], out: &mut [u8; WORDS]) -> Sizes
     ensures { Makes (made task input.now image.now) text.old out.old text.new out.new result }
 {
-    let fault = size_fault(most(task), input.len(), image.len());
-    if let Fault::Found(f) = fault {
-        return finish(list::refuse(f), &[], &[], image.len(), &[], text, out);
+    if let Err(f) = check_sizes(most(task), input.len(), image.len()) {
+        return refuse(f, &[], &[], image.len(), text);
     }
     let mut words = [0u32; 8193];
     endian::load(input, &mut words);
     let mut registers = [0u32; 256];
     endian::load(image, &mut registers);
-    let n = input.len() / 4;
-    perform(task, &words[..n], &registers, text, out)
+    perform(task, &words[..input.len() / 4], &registers, text, out)
 }

@@ -1,9 +1,10 @@
 -- A form in the making: what is written is the form of the commands passed but for the settings that are still to be put
 -- out, whatever commands follow.
-use Prim.Native.Nat.{ℕ, zero, suc, ◌+◌, ◌^◌, ◌≤◌, ◌<◌}
+use Prim.Native.Nat.{ℕ, suc, ◌+◌, ◌^◌, ◌≤◌, ◌<◌}
 use native.Mathlib.Nat.{zero-add}
 use native.Mathlib.Omega.{arith}
-use native.Mathlib.Decide.{ℕ_discrete}
+use native.Mathlib.Decide.{ℕ_discrete, dec_lt}
+use Rattle.std.proofs.lemmas.List.{get_or-replicate, get_or_past}
 use mathlib.Core.Path.{◌≡◌, refl, ap, ap₂, sym, ◌∙◌, subst}
 use mathlib.Core.Bool.{Bool, true, false, not}
 use mathlib.Core.Logic.{inl, inr}
@@ -11,7 +12,7 @@ use mathlib.Core.List.{List, [], ◌∷◌, ◌++◌, append_assoc, append-nil}
 use mathlib.Core.Option.{Option, none, some}
 use lib.Bits.{bit_or}
 use lib.Dec.{eqb}
-use lib.ListN.{length, get_or, set, length-append, length-set}
+use lib.ListN.{length, replicate, get_or, set, length-append, length-set}
 use lib.Seq.{sets, get_or-set_same, get_or-set_other}
 use borrow.Author.Tests.{not-true, not-false, ne_eqb}
 use Rattle.rules.specs.Table.{Row, size, is_setting, settings}
@@ -37,25 +38,22 @@ use Rattle.draft.specs.Drafts.{Drafted, output_of, after_setting, after_work, af
 
 pub record Forming (image₀ l start : List ℕ) (done : List Command) (s : Drafted) : Type 0 where
   pub valid : AllValid done
-  pub at_is : s.draft.at ≡ length (words_all done)
-  pub inside : s.draft.at ≤ length l
+  pub at_is : s.at ≡ length (words_all done)
+  pub inside : s.at ≤ length l
   pub image : List ℕ
   pub built : List ℕ
   pub near : Near built image
   pub long : length s.latest ≡ 64
-  pub latest-is : Latest l built image s.draft.changed s.latest
+  pub latest-is : Latest l built image s.changed s.latest
   pub so_far : List ℕ
   pub progress : Progress l image₀ start (λ k. built) so_far (output_of s)
   pub form-is : (rest : List Command) → words_all (form image₀ (done ++ rest)) ≡ so_far ++ words_all (form_from built image rest)
 
-abbrev pub zeros : ℕ → List ℕ
-zeros zero = []
-zeros (suc n) = 0 ∷ zeros n
-
-zero_at : (n k : ℕ) → get_or (zeros n) k 0 ≡ 0
-zero_at zero k = refl
-zero_at (suc n) zero = refl
-zero_at (suc n) (suc k) = zero_at n k
+zero_at : (k : ℕ) → ◌≡◌ {A = ℕ} (get_or (replicate 64 0) k 0) 0
+zero_at k = elim (dec_lt k 64) [
+  | yes h ↦ get_or-replicate 64 k 0 0 h
+  | no h ↦ get_or_past (replicate 64 0) k 0 (omega arith)
+]
 
 -- no setting is changed where the form has built the list's image
 latest_none : (l image latest : List ℕ) → Latest l image image 0 latest
@@ -106,7 +104,7 @@ unfolding setting_id
 kind_of c v = setting-is c.row.id ∙ rw v.found
 
 module _ (image₀ l start : List ℕ) (few : length l ≤ longest) (whole : length image₀ ≡ 256) where
-  pub forming_start : Forming image₀ l start [] (record { draft = record { at = 0; written = 0; changed = 0 }; latest = zeros 64; sent = zeros 64; out = start })
+  pub forming_start : Forming image₀ l start [] (record { at = 0; written = 0; changed = 0; latest = replicate 64 0; sent = replicate 64 0; out = start })
   forming_start =
       record {
         valid = tt;
@@ -116,9 +114,9 @@ module _ (image₀ l start : List ℕ) (few : length l ≤ longest) (whole : len
         built = image₀;
         near = near_refl image₀ whole;
         long = refl;
-        latest-is = latest_none l image₀ (zeros 64);
+        latest-is = latest_none l image₀ (replicate 64 0);
         so_far = [];
-        progress = record { long = refl; written_is = refl; out-is = refl; sent_is = λ k r f. inl (zero_at 64 k, refl) };
+        progress = record { long = refl; written_is = refl; out-is = refl; sent_is = λ k r f. inl (zero_at k, refl) };
         form-is = λ rest. refl;
       }
 
@@ -127,7 +125,7 @@ module _ (image₀ l start : List ℕ) (few : length l ≤ longest) (whole : len
     ahead = g.so_far ++ words_all (differing settings g.built g.image)
 
     abbrev o : Output
-    o = emit_changed s.draft.changed l image₀ s.latest (output_of s)
+    o = emit_changed s.changed l image₀ s.latest (output_of s)
 
     -- the form of the commands passed
     passed-form : words_all (form image₀ done) ≡ ahead
@@ -138,25 +136,25 @@ module _ (image₀ l start : List ℕ) (few : length l ≤ longest) (whole : len
     ahead_fits : length ahead ≤ longest
     ahead_fits = omega (arith, ap length passed-form, form_within image₀ done whole g.valid, g.at_is, g.inside)
 
-    emitted : Progress l image₀ start (λ k. g.image) ahead o × CanEmitChanged s.draft.changed l image₀ s.latest (output_of s)
-    emitted = emit-all l image₀ g.built g.image start s.latest s.draft.changed few whole g.latest-is g.so_far (output_of s) g.progress ahead_fits
+    emitted : Progress l image₀ start (λ k. g.image) ahead o × CanEmitChanged s.changed l image₀ s.latest (output_of s)
+    emitted = emit-all l image₀ g.built g.image start s.latest s.changed few whole g.latest-is g.so_far (output_of s) g.progress ahead_fits
 
     -- the end of the list
-    pub can_end : CanEmitChanged s.draft.changed l image₀ s.latest (output_of s)
+    pub can_end : CanEmitChanged s.changed l image₀ s.latest (output_of s)
     can_end = emitted.1
 
     pub forming_end : (o' : Output) → o' ≡ o → (o'.written ≡ length (words_all (form image₀ done))) × (o'.out ≡ sets start 0 (words_all (form image₀ done)))
     forming_end o' eo = let p = emitted.0 in rw (eo, passed-form) (p.written_is, p.out-is)
 
     -- a command
-    module _ (c : Command) (tail : List ℕ) (t : Stands l s.draft.at c tail) where
-      here : CommandAt l s.draft.at
+    module _ (c : Command) (tail : List ℕ) (t : Stands l s.at c tail) where
+      here : CommandAt l s.at
       here = command_at_lem few t
 
-      next_at : s.draft.at + size_at l s.draft.at ≡ length (words_all (done ++ c ∷ []))
-      next_at = ap (λ (j : ℕ). s.draft.at + j) t.size_is ∙ words-on done c s.draft.at g.at_is
+      next_at : s.at + size_at l s.at ≡ length (words_all (done ++ c ∷ []))
+      next_at = ap (λ (j : ℕ). s.at + j) t.size_is ∙ words-on done c s.at g.at_is
 
-      next-inside : s.draft.at + size_at l s.draft.at ≤ length l
+      next-inside : s.at + size_at l s.at ≤ length l
       next-inside = omega (arith, t.size_is, t.inside)
 
       form-on : (rest : List Command) → words_all (form image₀ ((done ++ c ∷ []) ++ rest)) ≡ g.so_far ++ words_all (form_from g.built g.image (c ∷ rest))
@@ -167,8 +165,8 @@ module _ (image₀ l start : List ℕ) (few : length l ≤ longest) (whole : len
           let x : Setting c.row = valid-setting c t.valid (is-setting c.row.kind is) in
           let n = setting-length c x t.valid in
           let sz : suc (length c.rest) ≡ size c.row = omega arith in
-          let set-latest = latest-set l g.built g.image s.latest s.draft.changed s.draft.at c x t.valid g.near.long_im g.long
-          (ap (read l s.draft.at) (sym sz) ∙ t.own) (omega (arith, t.inside)) g.latest-is in
+          let set-latest = latest-set l g.built g.image s.latest s.changed s.at c x t.valid g.near.long_im g.long
+          (ap (read l s.at) (sym sz) ∙ t.own) (omega (arith, t.inside)) g.latest-is in
           record {
             valid = valid_append done (c ∷ []) g.valid (t.valid, tt);
             at_is = next_at;
@@ -176,7 +174,7 @@ module _ (image₀ l start : List ℕ) (few : length l ≤ longest) (whole : len
             image = apply c g.image;
             built = g.built;
             near = near_setting g.built g.image c g.near t.valid x;
-            long = length-set s.latest (number_of (id_at l s.draft.at)) s.draft.at ∙ g.long;
+            long = length-set s.latest (number_of (id_at l s.at)) s.at ∙ g.long;
             latest-is = rw t.id-is set-latest;
             so_far = g.so_far;
             progress = g.progress;
@@ -201,7 +199,7 @@ module _ (image₀ l start : List ℕ) (few : length l ≤ longest) (whole : len
         work-on =
             let long' : length im ≡ 256 = length-apply c g.image ∙ g.near.long_im in
             let p = emitted.0 in
-            let own' : read l s.draft.at (size_at l s.draft.at) ≡ words c = ap (read l s.draft.at) t.size_is ∙ t.own in
+            let own' : read l s.at (size_at l s.at) ≡ words c = ap (read l s.at) t.size_is ∙ t.own in
             let n = length-append ahead (words c) in
             record {
               valid = valid_append done (c ∷ []) g.valid (t.valid, tt);
@@ -216,7 +214,7 @@ module _ (image₀ l start : List ℕ) (few : length l ≤ longest) (whole : len
               progress = record {
                 long = p.long;
                 written_is = omega (arith, p.written_is, t.size_is);
-                out-is = ap₂ (λ (x : List ℕ) (j : ℕ). sets x j (read l s.draft.at (size_at l s.draft.at))) p.out-is (p.written_is ∙ sym (zero-add (length ahead)))
+                out-is = ap₂ (λ (x : List ℕ) (j : ℕ). sets x j (read l s.at (size_at l s.at))) p.out-is (p.written_is ∙ sym (zero-add (length ahead)))
                     ∙ ap (sets (sets start 0 ahead) (0 + length ahead)) own' ∙ sym (sets_append start 0 ahead (words c));
                 sent_is = λ j r f.
                     sent_cong l r g.image im (sym (work_other r (setting_of_lem j r f).setting g.image c t.valid is)) image₀ _ (p.sent_is j r f);
@@ -224,7 +222,7 @@ module _ (image₀ l start : List ℕ) (few : length l ≤ longest) (whole : len
               form-is = work-form;
             }
 
-      pub setting-kind : not (eqb (setting_kind (id_at l s.draft.at)) 0) ≡ is_setting c.row.kind
+      pub setting-kind : not (eqb (setting_kind (id_at l s.at)) 0) ≡ is_setting c.row.kind
       setting-kind = ap (λ (i : ℕ). not (eqb (setting_kind i) 0)) t.id-is ∙ kind_of c t.valid
 
       pub can_take : CanTake l image₀ s
@@ -236,12 +234,12 @@ module _ (image₀ l start : List ℕ) (few : length l ≤ longest) (whole : len
         work = λ f. can_work;
       }
 
-      pub forming_on : (s' : Drafted) → s' ≡ after_command l image₀ s → (s.draft.at < s'.draft.at) × Forming image₀ l start (done ++ c ∷ []) s'
+      pub forming_on : (s' : Drafted) → s' ≡ after_command l image₀ s → (s.at < s'.at) × Forming image₀ l start (done ++ c ∷ []) s'
       unfolding after_command
       forming_on s' es =
-          let less : s.draft.at < s.draft.at + size_at l s.draft.at = omega (arith, t.size_is) in
+          let less : s.at < s.at + size_at l s.at = omega (arith, t.size_is) in
           rw es ((elim (is_setting c.row.kind) as (λ b. is_setting c.row.kind ≡ b
-          → (s.draft.at < (after_command l image₀ s).draft.at) × Forming image₀ l start (done ++ c ∷ []) (after_command l image₀ s)) [
-            | true ↦ λ is. rw (not-true (eqb (setting_kind (id_at l s.draft.at)) 0) (setting-kind ∙ is)) (less, set_on is)
-            | false ↦ λ is. rw (not-false (eqb (setting_kind (id_at l s.draft.at)) 0) (setting-kind ∙ is)) (less, work-on is)
+          → (s.at < (after_command l image₀ s).at) × Forming image₀ l start (done ++ c ∷ []) (after_command l image₀ s)) [
+            | true ↦ λ is. rw (not-true (eqb (setting_kind (id_at l s.at)) 0) (setting-kind ∙ is)) (less, set_on is)
+            | false ↦ λ is. rw (not-false (eqb (setting_kind (id_at l s.at)) 0) (setting-kind ∙ is)) (less, work-on is)
           ]) refl)

@@ -1,64 +1,72 @@
 -- What the parts of a command do, taken together.
-use Prim.Native.Nat.{ℕ, ◌+◌, ◌^◌, ◌<◌}
+use Prim.Native.Nat.{ℕ, ◌+◌, ◌-◌, ◌≤◌, ◌<◌}
 use native.Mathlib.Omega.{arith}
-use mathlib.Core.Path.{◌≡◌, ap, sym, ◌∙◌}
-use mathlib.Core.List.{List}
-use lib.Bits.{bit_or}
-use lib.ListN.{get_or, set}
-use lib.Seq.{sets}
+use mathlib.Core.Path.{◌≡◌, refl, ap, ◌∙◌}
+use mathlib.Core.List.{List, map}
+use lib.ListN.{length, get_or, set, take, drop}
+use lib.Seq.{sets, map-set_same}
 use borrow.Author.Tests.{ne_eqb}
 use Rattle.rules.specs.Word.{id_of}
 use Rattle.rules.specs.Form.{read}
+use Rattle.theory.proofs.Image.{length-read}
 use Rattle.table.specs.Ids.{setting_kind}
 use Rattle.command.specs.View.{size_at}
 use Rattle.command.specs.Effects.{id_at}
 use Rattle.command.proofs.Effects.{no_kind, is-group, is-single}
+use Rattle.settings.specs.declared.Places.{Places}
 use Rattle.settings.specs.Numbers.{number_of}
 use Rattle.settings.specs.Output.{Output, emit_changed}
-use Rattle.draft.specs.declared.Draft.{Draft}
-use Rattle.draft.specs.Drafts.{Drafted, output_of, after_work, after_command, CanWork, CanTake}
+use Rattle.settings.proofs.Slices.{read_take}
+use Rattle.draft.specs.Drafts.{Drafted, output_of, behind_setting, after_work, after_command, CanWork, CanTake}
 
-module _ (l image : List ℕ) (s : Drafted) (h : CanTake l image s) (w id kind : ℕ) (ew : w ≡ get_or l s.draft.at 0) (ei : id ≡ id_of w) (ek : kind ≡ setting_kind id) where
-  id-is : id ≡ id_at l s.draft.at
-  id-is = ei ∙ ap id_of ew
+module _ (l image : List ℕ) (s : Drafted) (h : CanTake l image s) where
+  abbrev kind : ℕ
+  kind = setting_kind (id_at l s.at)
 
-  kind-is : setting_kind (id_at l s.draft.at) ≡ kind
-  kind-is = sym (ek ∙ ap setting_kind id-is)
+  pub setting_number : (setting_kind (id_of (get_or l s.at 0)) ≡ 0 → ⊥) → number_of (id_of (get_or l s.at 0)) < 64
+  setting_number f = h.number f
 
-  pub setting-number : (kind ≡ 0 → ⊥) → number_of id < 64
-  setting-number f = omega (arith, h.number (λ z. f (sym kind-is ∙ z)), ap number_of id-is)
-
-  pub group-size : kind ≡ 2 → size_at l s.draft.at ≡ 4
-  group-size e = (is-group l s.draft.at h.command (kind-is ∙ e)).size
-
-  pub single-size : kind ≡ 1 → size_at l s.draft.at ≡ 1
-  single-size e = (is-single l s.draft.at h.command (kind-is ∙ e)).size
-
-  pub took-setting : (kind ≡ 0 → ⊥) → (words : ℕ) → size_at l s.draft.at ≡ words → (d : Draft) (latest : List ℕ)
-      → d ≡ record { at = s.draft.at + words; written = s.draft.written; changed = bit_or s.draft.changed (2 ^ number_of id) }
-      → latest ≡ set s.latest (number_of id) s.draft.at
-      → record { draft = d; latest = latest; sent = s.sent; out = s.out } ≡ after_command l image s
+  took-setting : (kind ≡ 0 → ⊥) → (words : ℕ) → size_at l s.at ≡ words → behind_setting (id_at l s.at) words s ≡ after_command l image s
   unfolding after_command
-  took-setting f words es d latest ed el = rw (kind-is, ne_eqb kind 0 f, es, ← id-is, ed, el)
+  took-setting f words es = rw (ne_eqb kind 0 f, es)
 
-  module _ (f : kind ≡ 2 → ⊥) (g : kind ≡ 1 → ⊥) where
-    no_setting : setting_kind (id_at l s.draft.at) ≡ 0
-    no_setting = no_kind (id_at l s.draft.at) (λ z. f (sym kind-is ∙ z)) (λ z. g (sym kind-is ∙ z))
+  pub took_group : setting_kind (id_of (get_or l s.at 0)) ≡ 2 → behind_setting (id_of (get_or l s.at 0)) 4 s ≡ after_command l image s
+  took_group e = took-setting (omega arith) 4 (is-group l s.at h.command e).size
 
-    pub can_work_now : CanWork l image s
-    can_work_now = h.work no_setting
+  pub took_single : setting_kind (id_of (get_or l s.at 0)) ≡ 1 → behind_setting (id_of (get_or l s.at 0)) 1 s ≡ after_command l image s
+  took_single e = took-setting (omega arith) 1 (is-single l s.at h.command e).size
 
-    pub took-work : after_work l image s ≡ after_command l image s
+  module _ (f : setting_kind (id_of (get_or l s.at 0)) ≡ 2 → ⊥) (g : setting_kind (id_of (get_or l s.at 0)) ≡ 1 → ⊥) where
+    pub can_work : CanWork l image s
+    can_work = h.work (no_kind (id_at l s.at) f g)
+
+    pub took_work : after_work l image s ≡ after_command l image s
     unfolding after_command
-    took-work = rw no_setting
+    took_work = rw (no_kind (id_at l s.at) f g)
+
+-- a setting's latest command leaves the one last put out
+pub sent-kept : (ps : List Places) (k at : ℕ)
+    → map (λ (p : Places). p.sent) (set ps k (record { latest = at; sent = (get_or ps k (record { latest = 0; sent = 0 })).sent })) ≡ map (λ (p : Places). p.sent) ps
+sent-kept ps k at = map-set_same (λ (p : Places). p.sent) ps k _ (record { latest = 0; sent = 0 }) refl
 
 -- a work command, by what its parts did
-pub worked : (l image : List ℕ) (s : Drafted) (o : Output) (words : ℕ) (out : List ℕ) → words ≡ size_at l s.draft.at
-    → o ≡ emit_changed s.draft.changed l image s.latest (output_of s) → out ≡ sets o.out o.written (read l s.draft.at words)
-    → record {
-      draft = record { at = s.draft.at + words; written = o.written + words; changed = 0 };
-      latest = s.latest;
-      sent = o.sent;
-      out = out;
-    } ≡ after_work l image s
-worked l image s o words out es eo e = rw (e, es) (rw eo)
+module _ (l image : List ℕ) (s : Drafted) (size : ℕ) (es : size ≡ size_at l s.at) (inside : s.at + size ≤ length l) where
+  abbrev work : List ℕ
+  work = take (s.at + size - s.at) (drop s.at l)
+
+  work-is : work ≡ read l s.at size
+  work-is = let n : s.at + size - s.at ≡ size = omega arith in rw n (read_take l s.at size inside)
+
+  pub work-long : length work ≡ size
+  work-long = ap length work-is ∙ length-read l s.at size
+
+  pub worked : (o : Output) (out : List ℕ) → o ≡ emit_changed s.changed l image s.latest (output_of s) → out ≡ sets o.out o.written work
+      → record {
+        at = s.at + length work;
+        written = o.written + length work;
+        changed = 0;
+        latest = s.latest;
+        sent = o.sent;
+        out = out;
+      } ≡ after_work l image s
+  worked o out eo e = rw (e, work-long, work-is, es) (rw eo)

@@ -7,57 +7,78 @@ use Rattle.table.specs.Ids.{setting_kind}
 use Rattle.command.specs.View.{size_at}
 use Rattle.command.specs.Effects.{id_at, CommandAt}
 use Rattle.draft.specs.declared.Draft.{Draft}
+use Rattle.settings.specs.declared.Memory.{Memory}
 use Rattle.settings.specs.Numbers.{number_of}
+use Rattle.settings.specs.Remembered.{latest_of, sent_of}
 use Rattle.settings.specs.Output.{longest, Output, put, emit_changed, CanEmitChanged}
 
--- where the form stands, where each setting was last set, where its command last put out stands, and the buffer
+-- where the form stands, the settings set since the last work command, where each setting was last set, where its command
+-- last put out stands, and the buffer
 pub record Drafted : Type 0 where
-  pub draft : Draft
+  pub at : ℕ
+  pub written : ℕ
+  pub changed : ℕ
   pub latest : List ℕ
   pub sent : List ℕ
   pub out : List ℕ
 
-abbrev pub made : Draft → List ℕ → List ℕ → List ℕ → Drafted
-made d latest sent out = record { draft = d; latest = latest; sent = sent; out = out }
-
-abbrev pub draft_at : ℕ → ℕ → ℕ → Draft
-draft_at at written changed = record { at = at; written = written; changed = changed }
+-- a draft, what is remembered, and the buffer
+abbrev pub made : Draft → Memory → List ℕ → Drafted
+made d m out =
+    record {
+      at = d.at;
+      written = d.written;
+      changed = d.changed;
+      latest = latest_of m;
+      sent = sent_of m;
+      out = out;
+    }
 
 abbrev pub output_of : Drafted → Output
-output_of s = put s.draft.written s.sent s.out
+output_of s = put s.written s.sent s.out
 
--- behind a setting of some words
-abbrev pub behind_setting : Draft → ℕ → ℕ → Draft
-behind_setting d id words = draft_at (d.at + words) d.written (bit_or d.changed (2 ^ number_of id))
+-- behind a setting of some words: it is the latest of its number
+abbrev pub behind_setting : ℕ → ℕ → Drafted → Drafted
+behind_setting id words s =
+    record {
+      at = s.at + words;
+      written = s.written;
+      changed = bit_or s.changed (2 ^ number_of id);
+      latest = set s.latest (number_of id) s.at;
+      sent = s.sent;
+      out = s.out;
+    }
 
--- a setting is the latest of its number
 abbrev pub after_setting : List ℕ → Drafted → Drafted
-after_setting l s =
-    let at = s.draft.at in
-    let k = number_of (id_at l at) in
-    made (behind_setting s.draft (id_at l at) (size_at l at)) (set s.latest k at) s.sent s.out
+after_setting l s = behind_setting (id_at l s.at) (size_at l s.at) s
 
 -- before a work command the settings that differ are put out
 abbrev pub after_work : List ℕ → List ℕ → Drafted → Drafted
 after_work l image s =
-    let at = s.draft.at in
-    let o = emit_changed s.draft.changed l image s.latest (output_of s) in
-    made (draft_at (at + size_at l at) (o.written + size_at l at) 0) s.latest o.sent (sets o.out o.written (read l at (size_at l at)))
+    let o = emit_changed s.changed l image s.latest (output_of s) in
+    record {
+      at = s.at + size_at l s.at;
+      written = o.written + size_at l s.at;
+      changed = 0;
+      latest = s.latest;
+      sent = o.sent;
+      out = sets o.out o.written (read l s.at (size_at l s.at));
+    }
 
 unfoldable pub after_command : List ℕ → List ℕ → Drafted → Drafted
 after_command l image s =
     let setting = after_setting l s in
     let work = after_work l image s in
-    cond {A = Drafted} (eqb (setting_kind (id_at l s.draft.at)) 0) work setting
+    cond {A = Drafted} (eqb (setting_kind (id_at l s.at)) 0) work setting
 
 -- a work command stands at the position
 pub record CanWork (l image : List ℕ) (s : Drafted) : Type 0 where
-  pub command : CommandAt l s.draft.at
-  pub emits : CanEmitChanged s.draft.changed l image s.latest (output_of s)
-  pub fits : (emit_changed s.draft.changed l image s.latest (output_of s)).written ≤ longest
+  pub command : CommandAt l s.at
+  pub emits : CanEmitChanged s.changed l image s.latest (output_of s)
+  pub fits : (emit_changed s.changed l image s.latest (output_of s)).written ≤ longest
 
 -- a command stands at the position
 pub record CanTake (l image : List ℕ) (s : Drafted) : Type 0 where
-  pub command : CommandAt l s.draft.at
-  pub number : (setting_kind (id_at l s.draft.at) ≡ 0 → ⊥) → number_of (id_at l s.draft.at) < 64
-  pub work : setting_kind (id_at l s.draft.at) ≡ 0 → CanWork l image s
+  pub command : CommandAt l s.at
+  pub number : (setting_kind (id_at l s.at) ≡ 0 → ⊥) → number_of (id_at l s.at) < 64
+  pub work : setting_kind (id_at l s.at) ≡ 0 → CanWork l image s

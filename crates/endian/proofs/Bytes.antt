@@ -5,7 +5,7 @@ use native.Mathlib.Numerals.{add-one}
 use mathlib.Core.Path.{◌≡◌, refl, ap, ap₂, ◌∙◌}
 use mathlib.Core.List.{List, [], ◌∷◌, ◌++◌}
 use lib.ListN.{length, get_or, take}
-use lib.Seq.{sets, take-suc, take_all, length-take-le}
+use lib.Seq.{sets, take-suc, length-take-le}
 use Rattle.theory.proofs.Image.{sets_append}
 use Rattle.theory.proofs.Bytes.{Words, word_again}
 use Rattle.endian.specs.Words.{words_of, word_bytes, bytes_of}
@@ -29,9 +29,6 @@ module _ (ws before : List ℕ) where
       let k : 0 + length (bytes_of (take i ws)) ≡ 4 * i = omega (arith, bytes-length (take i ws), length-take-le i ws (omega arith)) in
       rw (s, bytes_append (take i ws) (get_or ws i 0), sets_append before 0 (bytes_of (take i ws)) (word_bytes (get_or ws i 0)), k)
       (f ∙ ap (λ (l : List ℕ). sets l (4 * i) (word_bytes (get_or ws i 0))) e)
-
-  pub bytes-all : (i : ℕ) {after : List ℕ} → length ws ≤ i → after ≡ sets before 0 (bytes_of (take i ws)) → after ≡ sets before 0 (bytes_of ws)
-  bytes-all i h e = e ∙ ap (λ (l : List ℕ). sets before 0 (bytes_of l)) (take_all i ws h)
 
 -- ---- there and back
 

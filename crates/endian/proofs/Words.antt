@@ -1,10 +1,12 @@
 -- The words of some bytes.
-use Prim.Native.Nat.{ℕ, ◌+◌, ◌*◌, ◌/◌, ◌≤◌, ◌<◌}
+use Prim.Native.Nat.{ℕ, zero, suc, ◌+◌, ◌*◌, ◌/◌, ◌≤◌, ◌<◌}
 use native.Mathlib.Omega.{arith}
-use mathlib.Core.Path.{◌≡◌, ap, ap₂, ◌∙◌}
+use mathlib.Core.Path.{◌≡◌, refl, ap, ap₂, ◌∙◌}
 use mathlib.Core.List.{List, [], ◌∷◌}
 use lib.ListN.{length, get_or, take, set}
 use lib.Seq.{sets, sets-eq, take_at, length-take-le}
+use Rattle.std.specs.Int.{w32, from_le_bytes}
+use Rattle.std.specs.Simd.{first_chunks}
 use Rattle.rules.specs.Word.{little_endian}
 use Rattle.endian.specs.Words.{words_of}
 use Rattle.theory.proofs.Image.{sets_append}
@@ -23,6 +25,21 @@ word a b c d = little_endian a b c d ∷ []
 
 abbrev word_at : List ℕ → ℕ → ℕ
 word_at bs i = little_endian (get_or bs i 0) (get_or bs (i + 1) 0) (get_or bs (i + 2) 0) (get_or bs (i + 3) 0)
+
+-- the word of a chunk
+pub chunk-word : (k i : ℕ) (bs : List ℕ) → i < k → 4 * k ≤ length bs → from_le_bytes w32 (get_or (first_chunks 4 k bs) i []) ≡ word_at bs (4 * i)
+chunk-word (suc k) zero (a ∷ b ∷ c ∷ d ∷ bs) h g = refl
+chunk-word (suc k) (suc i) (a ∷ b ∷ c ∷ d ∷ bs) h g =
+    let n0 : 4 * suc i ≡ suc (suc (suc (suc (4 * i)))) = omega arith in
+    let n1 : suc (suc (suc (suc (4 * i)))) + 1 ≡ suc (suc (suc (suc (4 * i + 1)))) = omega arith in
+    let n2 : suc (suc (suc (suc (4 * i)))) + 2 ≡ suc (suc (suc (suc (4 * i + 2)))) = omega arith in
+    let n3 : suc (suc (suc (suc (4 * i)))) + 3 ≡ suc (suc (suc (suc (4 * i + 3)))) = omega arith in
+    rw (n0, n1, n2, n3) (chunk-word k i bs (omega arith) (omega arith))
+chunk-word zero i bs h g = absurd (omega arith)
+chunk-word (suc k) i [] h g = absurd (omega arith)
+chunk-word (suc k) i (a ∷ []) h g = absurd (omega arith)
+chunk-word (suc k) i (a ∷ b ∷ []) h g = absurd (omega arith)
+chunk-word (suc k) i (a ∷ b ∷ c ∷ []) h g = absurd (omega arith)
 
 -- a loop that puts a word at each turn
 module _ (bs before : List ℕ) where

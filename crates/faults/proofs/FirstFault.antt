@@ -7,10 +7,14 @@ use mathlib.Core.List.{List, [], ◌∷◌}
 use lib.Dec.{eqb}
 use borrow.Author.Tests.{ne_eqb}
 use lib.ListN.{length, take}
-use Rattle.rules.specs.declared.Refusal.{Refusal}
+use Rattle.std.specs.Prelude.{Option, Some, None, is_some}
+use Rattle.rules.specs.declared.Reason.{Reason}
+use Rattle.rules.specs.declared.Refusal.{Refusal as Returned}
+use Rattle.rules.specs.Returned.{number_of}
+use Rattle.rules.specs.Verdict.{Refusal}
 use Rattle.rules.specs.Word.{undefined}
 use Rattle.rules.specs.Table.{Row}
-use Rattle.rules.specs.Values.{refusal, Fault, first_fault, undefined_faults, value_faults, faults}
+use Rattle.rules.specs.Values.{Fault, first_fault, undefined_faults, value_faults, faults}
 use Rattle.rules.specs.Decode.{Decoded, bad}
 use Rattle.theory.proofs.Numbers.{Proper, not-zero, values_proper}
 use Rattle.theory.proofs.Refusals.{OfFaults}
@@ -19,7 +23,7 @@ use Rattle.table.specs.Ids.{group_id}
 use Rattle.table.specs.Tables.{more, row_number, row_at, mask_of, mask_at}
 use Rattle.table.proofs.Tables.{Known, ruled}
 use Rattle.values.specs.declared.Faults.{Faults}
-use Rattle.values.specs.First.{first_refusal, found, no_refusal, first_of}
+use Rattle.values.specs.First.{first_refusal, found, no_refusal, refusal_or_none, clash_of, first_of}
 use Rattle.values.specs.Broken.{load_broken, primitive_broken}
 use Rattle.values.proofs.Broken.{load-first, primitive_first}
 use Rattle.faults.specs.Faults.{unless_defined, first_undefined, own, any_undefined, value_fault}
@@ -106,8 +110,21 @@ module _ (n : ℕ) (g : Group) where
       rw e (near_case (undefined g.header (mask_at n 0)) (undefined g.second (mask_at n 1)) (undefined g.third (mask_at n 2)) (undefined g.fourth (mask_at n 3))
       _ _ _ _ no_refusal (omega arith) (omega arith) (omega arith) (omega arith) (omega arith))
 
-pub any-is : (f : Faults) → ((f.first || f.second) || (f.third || f.fourth)) || not (eqb f.clash 0) ≡ found (first_of f)
-any-is f = found_first f.first f.second f.third f.fourth _ _ _ _ (refusal f.clash 0) refl refl refl refl
+-- each reason has a number
+numbered_reason : (r : Reason) → not (eqb (number_of r) 0) ≡ true
+numbered_reason r = ap not {x = eqb (number_of r) 0} {y = false} (grind arith)
+
+-- a refusal is found exactly where one is returned
+pub some-found : (o : Option Returned) → is_some o ≡ found (refusal_or_none o)
+some-found None = refl
+some-found (Some f) = sym (numbered_reason f.reason)
+
+clash_found : (o : Option Reason) → is_some o ≡ found (clash_of o)
+clash_found None = refl
+clash_found (Some r) = sym (numbered_reason r)
+
+pub any-is : (f : Faults) → ((f.first || f.second) || (f.third || f.fourth)) || is_some f.clash ≡ found (first_of f)
+any-is f = ap (λ (b : Bool). ((f.first || f.second) || (f.third || f.fourth)) || b) (clash_found f.clash) ∙ found_first f.first f.second f.third f.fourth _ _ _ _ (clash_of f.clash) refl refl refl refl
 
 no_words : (i : ℕ) (ms : List ℕ) → undefined_faults i ms [] ≡ []
 no_words i [] = refl

@@ -1,6 +1,6 @@
 -- A command's words against the masks of its row.
 use Rattle.std.specs.Prelude.{ℕ, Bool, cond, ◌||◌, List, length, take}
-use Rattle.rules.specs.declared.Refusal.{Refusal}
+use Rattle.rules.specs.Verdict.{Refusal}
 use Rattle.rules.specs.Word.{undefined}
 use Rattle.rules.specs.Table.{Row}
 use Rattle.rules.specs.Values.{undefined_bit, value_faults}

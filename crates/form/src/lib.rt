@@ -3,11 +3,12 @@
 
 ghost use Rattle.std.specs.Prelude.{◌≡◌, length};
 ghost use Rattle.std.proofs.lemmas.List.Edits.{sets};
+ghost use Rattle.rules.specs.Returned.{answer_of};
 ghost use Rattle.rules.specs.Answer.{outcome, normalising, measuring, normal_form, IsAccepted};
 
 use draft::Draft;
-use list::Walked;
-use rules::Answer;
+use rules::{Accepted, Refusal};
+use settings::Memory;
 
 // The form of an accepted list, written as far as the buffer goes, and its length.
 fn form(list: &[u32], image: &[u32], out: &mut [u32]) -> usize
@@ -15,51 +16,35 @@ fn form(list: &[u32], image: &[u32], out: &mut [u32]) -> usize
     ensures value { result ≡ length (normal_form image.now list.now) }
     ensures out_value { out.new ≡ sets out.old 0 (normal_form image.now list.now) }
 {
-    let mut latest = [0u16; 64];
-    let mut sent = [0u16; 64];
-    let mut d = Draft {
-        at: 0,
-        written: 0,
-        changed: 0,
-    };
-    while d.at < list.len() {
-        d = draft::take_command(list, image, d, &mut latest, &mut sent, out);
+    let mut draft = Draft::new();
+    let mut memory = Memory::new();
+    // stays: an iterator over commands is no plainer, since a draft keeps its own place in the list
+    while draft.at < list.len() {
+        draft.take_command(&mut memory, list, image, out);
     }
-    settings::emit_settings(d.changed, list, image, &latest, &mut sent, out, d.written)
+    memory.emit_settings(draft.changed, list, image, out, draft.written)
 }
 
 // The measurer: from a list and a starting image to the normal form's length. The form is written to no buffer.
-pub fn measure(list: &[u32], image: &[u32]) -> Answer
-    ensures { result ≡ measuring list.now image.now }
+pub fn measure(list: &[u32], image: &[u32]) -> Result<Accepted, Refusal>
+    ensures { answer_of result ≡ measuring list.now image.now }
 {
-    let w = list::check(list, image);
-    match w {
-        Walked::Refused(f) => list::refuse(f),
-        Walked::Accepted(commands, records) => {
-            let mut nothing = [0u32; 0];
-            let length = form(list, image, &mut nothing);
-            list::accepted(list.len(), commands, records, length)
-        }
-    }
+    let counts = list::check(list, image)?;
+    let length = form(list, image, &mut []);
+    Ok(list::accepted(list.len(), counts, length))
 }
 
-// The normaliser: from a list, a starting image and an put buffer to the normal form. A form never has more words than
+// The normaliser: from a list, a starting image and an output buffer to the normal form. A form never has more words than
 // its list: it is measured first only where the buffer is shorter than the list.
-pub fn normalise(list: &[u32], image: &[u32], out: &mut [u32]) -> Answer
-    ensures { outcome result image.now out.new ≡ normalising list.now image.now out.old }
+pub fn normalise(list: &[u32], image: &[u32], out: &mut [u32]) -> Result<Accepted, Refusal>
+    ensures { outcome (answer_of result) image.now out.new ≡ normalising list.now image.now out.old }
 {
-    let w = list::check(list, image);
-    match w {
-        Walked::Refused(f) => list::refuse(f),
-        Walked::Accepted(commands, records) => {
-            if out.len() < list.len() {
-                let mut nothing = [0u32; 0];
-                if out.len() < form(list, image, &mut nothing) {
-                    return list::no_room(list.len());
-                }
-            }
-            let words = form(list, image, out);
-            list::accepted(list.len(), commands, records, words)
+    let counts = list::check(list, image)?;
+    if out.len() < list.len() {
+        if out.len() < form(list, image, &mut []) {
+            return Err(list::no_room(list.len()));
         }
     }
+    let words = form(list, image, out);
+    Ok(list::accepted(list.len(), counts, words))
 }

@@ -1,97 +1,78 @@
-// Texts with holes for numbers, and tables of text, in a lent buffer. Each part goes from position `at` on, and the answer
-// is the position behind it; what does not fit is left out.
+// Texts with holes for numbers, and tables of text.
 #![tactic(auto)]
 
-ghost use Rattle.std.specs.Prelude.{◌≡◌, ◌≤◌, length, drop};
-ghost use Rattle.text.specs.Puts.{Puts, Bounded};
+ghost use Rattle.std.specs.Prelude.{◌≡◌};
+ghost use Rattle.text.specs.Wrote.{Wrote};
 ghost use Rattle.format.specs.Format.{line_of, table_row, hole, formatted};
+
+use text::Writer;
 
 // ---- tables
 
-fn put_line(text: &mut [u8], at: usize, line: &[u8]) -> usize
-    requires { Bounded at (line_of line.now) }
-    ensures { Puts (line_of line.now) text.old at text.new result }
+// What stands before the first line's end.
+fn put_line(writer: &mut Writer<'_>, lines: &[u8])
+    ensures { Wrote (line_of lines.now) writer.old writer.new }
 {
-    if line.len() == 0 {
-        return at;
+    for byte in lines {
+        if *byte == b'\n' {
+            return;
+        }
+        writer.put(*byte);
     }
-    let c = line[0];
-    if c == b'\n' {
-        return at;
-    }
-    let next = text::put(text, at, c);
-    put_line(text, next, &line[1..])
 }
 
-// Where the row with a key begins, behind the key: the end of the table where there is none.
-fn find_row(table: &[u8], a: u8, b: u8) -> usize
-    ensures { (result ≤ length table.now) × (line_of (drop result table.now) ≡ table_row table.now a b) }
+// What stands behind a key of two bytes at a line's start: nothing where no line has it.
+// stays: a table is the text that help prints, and a row is looked for in it; a `split` into lines takes a newline in the
+// key for none, and `row_from` does not
+fn behind_key<'a>(table: &'a [u8], a: u8, b: u8) -> &'a [u8]
+    ensures { line_of result.now ≡ table_row table.now a b }
 {
+    let mut rest = table;
     let mut fresh = true;
-    let mut i = 0;
-    while 2 <= table.len() - i {
-        let c = table[i];
-        if (fresh & (c == a)) & (table[i + 1] == b) {
-            return i + 2;
+    while let [first, second, ..] = rest {
+        if (fresh & (*first == a)) & (*second == b) {
+            return &rest[2..];
         }
-        fresh = c == b'\n';
-        i += 1;
+        fresh = *first == b'\n';
+        rest = &rest[1..];
     }
-    table.len()
+    &[]
 }
 
 // What stands behind a key of two bytes, to the end of its line.
-pub fn put_row(text: &mut [u8], at: usize, table: &[u8], a: u8, b: u8) -> usize
-    requires { Bounded at (table_row table.now a b) }
-    ensures { Puts (table_row table.now a b) text.old at text.new result }
+pub fn put_row(writer: &mut Writer<'_>, table: &[u8], a: u8, b: u8)
+    ensures { Wrote (table_row table.now a b) writer.old writer.new }
 {
-    let from = find_row(table, a, b);
-    put_line(text, at, &table[from..])
+    put_line(writer, behind_key(table, a, b));
 }
 
 // ---- formats
 
-fn put_hole(text: &mut [u8], at: usize, table: &[u8], kind: u8, n: usize) -> usize
-    requires { Bounded at (hole table.now kind n) }
-    ensures { Puts (hole table.now kind n) text.old at text.new result }
+fn put_hole(writer: &mut Writer<'_>, table: &[u8], kind: u8, n: usize)
+    ensures { Wrote (hole table.now kind n) writer.old writer.new }
 {
-    if kind == b'd' {
-        return text::put_decimal(text, at, n);
+    match kind {
+        b'd' => writer.put_decimal(n),
+        b'n' => put_row(writer, table, text::digit(n / 16 % 16), text::digit(n % 16)),
+        _ => writer.put_hex((kind % 16) as usize, n),
     }
-    if kind == b'n' {
-        return put_row(
-            text,
-            at,
-            table,
-            text::digit(n / 16 % 16),
-            text::digit(n % 16),
-        );
-    }
-    text::put_hex(text, at, (kind % 16) as usize, n)
 }
 
 // The format with the numbers in its holes.
-pub fn put_format(
-    text: &mut [u8],
-    at: usize,
-    table: &[u8],
-    format: &[u8],
-    numbers: &[usize],
-) -> usize
-    requires { Bounded at (formatted table.now format.now numbers.now) }
-    ensures { Puts (formatted table.now format.now numbers.now) text.old at text.new result }
+pub fn put_format(writer: &mut Writer<'_>, table: &[u8], format: &[u8], numbers: &[usize])
+    ensures { Wrote (formatted table.now format.now numbers.now) writer.old writer.new }
 {
-    if numbers.len() == 0 {
-        return text::put_all(text, at, format);
+    let [n, others @ ..] = numbers else {
+        return writer.put_all(format);
+    };
+    let [byte, kind, ..] = format else {
+        return writer.put_all(format);
+    };
+    if *byte == b'%' {
+        put_hole(writer, table, *kind, *n);
+        put_format(writer, table, &format[2..], others);
+    } else {
+        writer.put(*byte);
+        put_format(writer, table, &format[1..], numbers);
     }
-    if format.len() < 2 {
-        return text::put_all(text, at, format);
-    }
-    let c = format[0];
-    if c != b'%' {
-        let next = text::put(text, at, c);
-        return put_format(text, next, table, &format[1..], numbers);
-    }
-    let next = put_hole(text, at, table, format[1], numbers[0]);
-    put_format(text, next, table, &format[2..], &numbers[1..])
 }

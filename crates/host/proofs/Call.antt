@@ -1,24 +1,23 @@
 -- Every number of an answer fits a word, and what a call gives back.
 use Prim.Native.Nat.{ℕ, ◌*◌, ◌^◌, ◌≤◌, ◌<◌}
 use native.Mathlib.Omega.{arith}
-use mathlib.Core.Path.{◌≡◌, refl, ap, sym, ◌∙◌, subst}
+use mathlib.Core.Path.{◌≡◌, refl, ap, sym, subst}
 use mathlib.Core.Bool.{Bool, true, false}
 use mathlib.Core.List.{List}
 use lib.Dec.{ltb}
 use lib.ListN.{length}
-use lib.Seq.{sets}
 use Rattle.rules.specs.Command.{Command, words_all}
 use Rattle.rules.specs.Walk.{Parsed, refused, accepted, parse}
 use Rattle.rules.specs.Form.{form}
-use Rattle.rules.specs.declared.Refusal.{Refusal}
-use Rattle.rules.specs.declared.Answer.{Answer}
+use Rattle.rules.specs.Verdict.{Refusal}
+use Rattle.rules.specs.Verdict.{Answer}
 use Rattle.rules.specs.Values.{refusal}
-use Rattle.rules.specs.Answer.{Outcome, answer_words, refused_answer, accept, fitting, write_parsed, reading, normalising, measuring}
+use Rattle.rules.specs.Answer.{Outcome, outcome, refused_answer, accept, fitting, write_parsed, reading, normalising, measuring}
 use Rattle.rules.specs.Pci.{pairs_all, values, parse_pairs, to_pci, from_pci}
-use Rattle.rules.specs.Session.{SessionOutcome, session_words, reading_scenes}
+use Rattle.rules.specs.Session.{SessionOutcome, in_session, reading_scenes}
 use Rattle.rules.specs.Swap.{words_got, reading_in, normalising_in}
-use Rattle.rules.specs.declared.SceneAnswer.{SceneAnswer}
-use Rattle.rules.specs.Book.{BookOutcome, place_words, book_answer_words, writing_book}
+use Rattle.rules.specs.Verdict.{SessionAnswer, BookAnswer}
+use Rattle.rules.specs.Book.{BookOutcome, book_outcome, writing_book}
 use Rattle.theory.proofs.Numbers.{RefusesList, parse-refuses, pairs_refuses}
 use Rattle.theory.proofs.Parse.{parse-accepted}
 use Rattle.theory.proofs.Form.{form-fits}
@@ -30,7 +29,6 @@ use Rattle.theory.proofs.Demands.{told_is_enough, told_never_longer}
 use Rattle.theory.proofs.Modes.{by_mode}
 use Rattle.theory.proofs.Book.{words-few}
 use Rattle.answer.specs.FitsWords.{FitsWords}
-use Rattle.host.specs.Call.{result_of, answer_result, session_result, place_result, book_result}
 
 refused-fits : (f : Refusal) → f.word ≤ 16384 → FitsWords (refused_answer f)
 refused-fits f h = record { position = omega arith; commands = omega arith; records = omega arith; words = omega arith }
@@ -64,67 +62,72 @@ module _ (ws image buffer : List ℕ) where
   normalising-fits =
       write-fits (λ cs. words_all (form image cs)) (parse image ws) (parse-refuses image ws) (λ cs p. (p, omega (arith, form-fits image ws cs p)))
 
-  pub to_pci_fits : {o : Outcome} → o ≡ to_pci ws image buffer → FitsWords o.answer
+  to_pci-fits : FitsWords (to_pci ws image buffer).answer
   unfolding to_pci
-  to_pci_fits e =
-      rw e (write-fits pairs_all (parse image ws) (parse-refuses image ws)
-      (λ cs p. (p, omega (arith, pairs_length cs, ap length (parse-accepted image ws cs p).parses.words_are))))
+  to_pci-fits =
+      write-fits pairs_all (parse image ws) (parse-refuses image ws)
+      (λ cs p. (p, omega (arith, pairs_length cs, ap length (parse-accepted image ws cs p).parses.words_are)))
 
 module _ (ws image buffer : List ℕ) (mode : ℕ) where
   no_mode_fits : 3 < mode → FitsWords (refused_answer (refusal 21 0))
   no_mode_fits h = refused-fits (refusal 21 0) (omega arith)
 
-  pub read_fits : {o : Outcome} → o ≡ reading_in ws image buffer mode → FitsWords o.answer
-  read_fits e = rw e (by_mode reading ws image buffer mode (λ o. FitsWords o.answer) no_mode_fits (λ h. reading-fits (words_got mode ws) image buffer))
+  reading_in-fits : FitsWords (reading_in ws image buffer mode).answer
+  reading_in-fits = by_mode reading ws image buffer mode (λ o. FitsWords o.answer) no_mode_fits (λ h. reading-fits (words_got mode ws) image buffer)
 
-  pub normalise-fits : {o : Outcome} → o ≡ normalising_in ws image buffer mode → FitsWords o.answer
-  normalise-fits e =
-      rw e (by_mode normalising ws image buffer mode (λ o. FitsWords o.answer) no_mode_fits (λ h. normalising-fits (words_got mode ws) image buffer))
+  normalising_in-fits : FitsWords (normalising_in ws image buffer mode).answer
+  normalising_in-fits = by_mode normalising ws image buffer mode (λ o. FitsWords o.answer) no_mode_fits (λ h. normalising-fits (words_got mode ws) image buffer)
 
 -- as the normaliser answers where the buffer has the list's length
-pub measure-fits : (ws image : List ℕ) {a : Answer} → a ≡ measuring ws image → FitsWords a
-measure-fits ws image e = subst FitsWords (told_is_enough ws image ws (told_never_longer ws image) ∙ sym e) (normalising-fits ws image ws)
+measuring-fits : (ws image : List ℕ) → FitsWords (measuring ws image)
+measuring-fits ws image = subst FitsWords (told_is_enough ws image ws (told_never_longer ws image)) (normalising-fits ws image ws)
 
-pub from_pci_fits : (ps image buffer : List ℕ) {o : Outcome} → o ≡ from_pci ps image buffer → FitsWords o.answer
+from_pci-fits : (ps image buffer : List ℕ) → FitsWords (from_pci ps image buffer).answer
 unfolding from_pci
-from_pci_fits ps image buffer e =
-    rw e (write-fits (values ps) image buffer (λ cs. values ps) (parse_pairs image ps) (pairs_refuses image ps)
-    (λ cs p. ((pairs_carry image ps cs p).parsed, omega arith)))
+from_pci-fits ps image buffer =
+    write-fits (values ps) image buffer (λ cs. values ps) (parse_pairs image ps) (pairs_refuses image ps)
+    (λ cs p. ((pairs_carry image ps cs p).parsed, omega arith))
 
-pub session-fits : (ws table image buffer : List ℕ) {o : SessionOutcome} → o ≡ reading_scenes ws table image buffer
-    → FitsWords o.session.answer × (o.session.lists < 2 ^ 32)
-session-fits ws table image buffer e =
+record SessionFits (s : SessionAnswer) : Type 0 where
+  pub answer : FitsWords s.answer
+  pub lists : s.lists < 2 ^ 32
+
+reading_scenes-fits : (ws table image buffer : List ℕ) → SessionFits (reading_scenes ws table image buffer).session
+reading_scenes-fits ws table image buffer =
     let s = scenes_sound ws table image buffer in
     let b = s.bounded in
-    rw e (
-      record {
+    record {
+      answer = record {
         position = omega (arith, s.position);
         commands = omega (arith, b.lists, b.commands);
         records = omega (arith, b.lists, b.records);
         words = omega (arith, b.lists, b.records, b.words);
-      },
-      omega (arith, b.lists),
-    )
+      };
+      lists = omega (arith, b.lists);
+    }
 
-pub book-fits : (table ws buffer : List ℕ) {o : BookOutcome} → o ≡ writing_book table ws buffer → o.answer.words < 2 ^ 32
-book-fits table ws buffer e = rw e (omega (arith, words-few table ws buffer))
+-- ---- of what a call returned
 
-pub call-result : {o p : Outcome} {after : List ℕ} (answer : List ℕ) → o ≡ p → after ≡ sets answer 0 (answer_words o.answer)
-    → record { verdict = o.answer.verdict; image = o.image; buffer = o.buffer; answer = after } ≡ result_of p answer
-call-result answer e t = rw t (ap (λ (x : Outcome). result_of x answer) e)
+module _ (a : Answer) (image after : List ℕ) where
+  pub read_fits : (ws image₀ buffer : List ℕ) (mode : ℕ) → outcome a image after ≡ reading_in ws image₀ buffer mode → FitsWords a
+  read_fits ws image₀ buffer mode e = subst (λ (o : Outcome). FitsWords o.answer) (sym e) (reading_in-fits ws image₀ buffer mode)
 
-pub answer-result : {a b : Answer} {after : List ℕ} (answer : List ℕ) → a ≡ b → after ≡ sets answer 0 (answer_words a)
-    → record { verdict = a.verdict; answer = after } ≡ answer_result b answer
-answer-result answer e t = rw t (ap (λ (x : Answer). answer_result x answer) e)
+  pub normalise_fits : (ws image₀ buffer : List ℕ) (mode : ℕ) → outcome a image after ≡ normalising_in ws image₀ buffer mode → FitsWords a
+  normalise_fits ws image₀ buffer mode e = subst (λ (o : Outcome). FitsWords o.answer) (sym e) (normalising_in-fits ws image₀ buffer mode)
 
-pub session-result : {o p : SessionOutcome} {after : List ℕ} (answer : List ℕ) → o ≡ p → after ≡ sets answer 0 (session_words o.session)
-    → record { verdict = o.session.answer.verdict; image = o.image; buffer = o.buffer; answer = after } ≡ session_result p answer
-session-result answer e t = rw t (ap (λ (x : SessionOutcome). session_result x answer) e)
+  pub to_pci_fits : (ws image₀ buffer : List ℕ) → outcome a image after ≡ to_pci ws image₀ buffer → FitsWords a
+  to_pci_fits ws image₀ buffer e = subst (λ (o : Outcome). FitsWords o.answer) (sym e) (to_pci-fits ws image₀ buffer)
 
-pub place-result : {a b : SceneAnswer} {after : List ℕ} (place : List ℕ) → a ≡ b → after ≡ sets place 0 (place_words a)
-    → record { verdict = a.verdict; answer = after } ≡ place_result b place
-place-result place e t = rw t (ap (λ (x : SceneAnswer). place_result x place) e)
+  pub from_pci_fits : (ps image₀ buffer : List ℕ) → outcome a image after ≡ from_pci ps image₀ buffer → FitsWords a
+  from_pci_fits ps image₀ buffer e = subst (λ (o : Outcome). FitsWords o.answer) (sym e) (from_pci-fits ps image₀ buffer)
 
-pub book-result : {o p : BookOutcome} {after : List ℕ} (answer : List ℕ) → o ≡ p → after ≡ sets answer 0 (book_answer_words o.answer)
-    → record { verdict = o.answer.verdict; book = o.buffer; answer = after } ≡ book_result p answer
-book-result answer e t = rw t (ap (λ (x : BookOutcome). book_result x answer) e)
+pub measure_fits : (a : Answer) (ws image : List ℕ) → a ≡ measuring ws image → FitsWords a
+measure_fits a ws image e = subst FitsWords (sym e) (measuring-fits ws image)
+
+pub session_fits : (s : SessionAnswer) (image after ws table image₀ buffer : List ℕ) → in_session s image after ≡ reading_scenes ws table image₀ buffer
+    → FitsWords s.answer × (s.lists < 2 ^ 32)
+session_fits s image after ws table image₀ buffer e =
+    let t = subst (λ (o : SessionOutcome). SessionFits o.session) (sym e) (reading_scenes-fits ws table image₀ buffer) in (t.answer, t.lists)
+
+pub book_fits : (a : BookAnswer) (after table ws buffer : List ℕ) → book_outcome a after ≡ writing_book table ws buffer → a.words < 2 ^ 32
+book_fits a after table ws buffer e = omega (arith, words-few table ws buffer, ap (λ (o : BookOutcome). o.answer.words) e)

@@ -1,10 +1,10 @@
 -- What the exported functions give back.
 use Rattle.std.specs.Prelude.{ℕ, List}
 use Rattle.std.proofs.lemmas.List.Edits.{sets}
-use Rattle.rules.specs.declared.Answer.{Answer}
+use Rattle.rules.specs.Verdict.{Answer}
 use Rattle.rules.specs.Answer.{Outcome, answer_words}
 use Rattle.rules.specs.Session.{SessionOutcome, session_words, reading_scenes}
-use Rattle.rules.specs.declared.SceneAnswer.{SceneAnswer}
+use Rattle.rules.specs.Verdict.{SceneAnswer}
 use Rattle.rules.specs.Book.{BookOutcome, place_words, book_answer_words}
 
 -- what a call returns, and the lent words after it

@@ -1,4 +1,5 @@
 // The functions that C and Rust call (xp10.h).
+// stays: alike, each with lent slices and a number for a verdict: the C interface
 #![tactic(auto)]
 
 ghost use Rattle.std.specs.Prelude.{◌≡◌};
@@ -19,9 +20,7 @@ pub extern "C" fn xp10_read(
 ) -> u32
     ensures { call result image.new records.new answer.new ≡ result_of (reading_in list.now image.old records.old mode) answer.old }
 {
-    let a = swap::read(list, image, records, mode);
-    answer::write(a, answer);
-    a.verdict
+    answer::write(swap::read(list, image, records, mode), answer)
 }
 
 // The reader on several lists in turn.
@@ -35,9 +34,7 @@ pub extern "C" fn xp10_read_scenes(
 ) -> u32
     ensures { call result image.new records.new answer.new ≡ scenes_read words.now table.now image.old records.old answer.old }
 {
-    let s = session::read_scenes(words, table, image, records);
-    answer::write_session(s, answer);
-    s.answer.verdict
+    answer::write_session(session::read_scenes(words, table, image, records), answer)
 }
 
 // The normaliser in a mode.
@@ -51,9 +48,7 @@ pub extern "C" fn xp10_normalise(
 ) -> u32
     ensures { call result image.now out.new answer.new ≡ result_of (normalising_in list.now image.now out.old mode) answer.old }
 {
-    let a = swap::normalise(list, image, out, mode);
-    answer::write(a, answer);
-    a.verdict
+    answer::write(swap::normalise(list, image, out, mode), answer)
 }
 
 // The room that the normal form takes.
@@ -61,9 +56,7 @@ pub extern "C" fn xp10_normalise(
 pub extern "C" fn xp10_measure(list: &[u32], image: &[u32], answer: &mut [u32]) -> u32
     ensures { answered result answer.new ≡ answer_result (measuring list.now image.now) answer.old }
 {
-    let a = form::measure(list, image);
-    answer::write(a, answer);
-    a.verdict
+    answer::write(form::measure(list, image), answer)
 }
 
 // The list as PCI writes.
@@ -76,9 +69,7 @@ pub extern "C" fn xp10_to_pci(
 ) -> u32
     ensures { call result image.now pairs.new answer.new ≡ result_of (to_pci list.now image.now pairs.old) answer.old }
 {
-    let a = pci_writer::to_pci(list, image, pairs);
-    answer::write(a, answer);
-    a.verdict
+    answer::write(pci_writer::to_pci(list, image, pairs), answer)
 }
 
 // PCI writes as the list.
@@ -91,9 +82,7 @@ pub extern "C" fn xp10_from_pci(
 ) -> u32
     ensures { call result image.now list.new answer.new ≡ result_of (from_pci pairs.now image.now list.old) answer.old }
 {
-    let a = pci_reader::from_pci(pairs, image, list);
-    answer::write(a, answer);
-    a.verdict
+    answer::write(pci_reader::from_pci(pairs, image, list), answer)
 }
 
 // Where a scene of a book is.
@@ -101,9 +90,7 @@ pub extern "C" fn xp10_from_pci(
 pub extern "C" fn xp10_find_scene(book: &[u32], number: u32, place: &mut [u32]) -> u32
     ensures { answered result place.new ≡ place_result (finding_scene book.now number) place.old }
 {
-    let a = book::find(book, number);
-    answer::write_place(a, place);
-    a.verdict
+    answer::write_place(book::find(book, number), place)
 }
 
 // The book of a table's scenes.
@@ -116,7 +103,5 @@ pub extern "C" fn xp10_write_book(
 ) -> u32
     ensures { written result book.new answer.new ≡ book_result (writing_book table.now words.now book.old) answer.old }
 {
-    let a = book::write_book(table, words, book);
-    answer::write_book_answer(a, answer);
-    a.verdict
+    answer::write_book_answer(book::write_book(table, words, book), answer)
 }

@@ -1,3 +1,4 @@
 pub mod Steps
 pub mod Position
 pub mod Answers
+pub mod Stepping

@@ -6,7 +6,7 @@ use mathlib.Core.Path.{◌≡◌, refl, ap, ap₂, sym, ◌∙◌, subst}
 use mathlib.Core.Bool.{Bool, true, false, cond}
 use mathlib.Core.List.{List, [], ◌∷◌}
 use lib.ListN.{length, get_or, drop, length-drop}
-use Rattle.rules.specs.declared.Refusal.{Refusal}
+use Rattle.rules.specs.Verdict.{Refusal}
 use Rattle.rules.specs.Table.{plain, begins, is_setting, is_begin}
 use Rattle.rules.specs.Command.{Command}
 use Rattle.rules.specs.Values.{shift, Fault, first_fault}
@@ -16,22 +16,20 @@ use Rattle.rules.specs.Records.{records}
 use Rattle.theory.proofs.Valid.{first_holds, first-told}
 use Rattle.theory.proofs.Parse.{decode-read, step-took}
 use Rattle.theory.proofs.Walk.{walk_at, walk_end}
-use Rattle.command.specs.declared.Decoded.{Decoded as Decoded'}
-use Rattle.command.specs.declared.Decoded.TheVariants as decoded
+use Rattle.std.specs.Prelude.{Result, Ok, Err}
+use Rattle.command.specs.declared.Command.{Command as Kept}
 use Rattle.command.specs.View.{kept, decoded_at}
 use Rattle.command.specs.View.{view as viewDecoded}
 use Rattle.list.specs.declared.Cursor.{Cursor}
-use Rattle.list.specs.declared.Step.TheVariants.{On, Refused}
-use Rattle.list.specs.declared.Walked.{Walked}
-use Rattle.list.specs.declared.Walked.TheVariants as walked
+use Rattle.list.specs.declared.Counts.{Counts}
 use Rattle.list.specs.View.{origin, Counted, InsideAfter, after, kept_faults, refuse_at, ordered, advanced, taken, StandsFor, behind, view, step_at, Steps, walked_of, Walks}
 
 -- ---- one step
 
 -- a command in order is the one given
-pub inside-ordered : (c : Cursor) (d : Decoded') → InsideAfter c d → InsideAfter c (ordered c d)
-inside-ordered c (decoded.Refused f) h = tt
-inside-ordered c (decoded.Command k) h = first_holds (InsideAfter c) (refuse_at c) (λ f. tt) (kept_faults c k) (decoded.Command k) h
+pub inside-ordered : (c : Cursor) (d : Result Kept Refusal) → InsideAfter c d → InsideAfter c (ordered c d)
+inside-ordered c (Err f) h = tt
+inside-ordered c (Ok k) h = first_holds (InsideAfter c) (refuse_at c) (λ f. tt) (kept_faults c k) (Ok k) h
 
 pub kept_begin : (b : Bool) → is_begin (cond b begins plain) ≡ b
 kept_begin true = refl
@@ -60,12 +58,12 @@ module _ (l : List ℕ) (c : Cursor) where
   by_decoded : (s : State) → StandsFor c s → (x : Decoded) → taken c (viewDecoded c.at x) ≡ view c (step_decoded s x)
   by_decoded s a (bad f) = refl
   by_decoded s a (good d) =
-      first-told (advanced c) (refuse_at c) (kept_faults c (kept d)) (decoded.Command (kept d))
-      ∙ ap₂ (λ (fs : List Fault) (e : Cursor). first_fault (λ f. Refused (shift c.at f)) fs (On e)) (faults_are c s a d) (after_is c s a d)
+      first-told (advanced c) (refuse_at c) (kept_faults c (kept d)) (Ok (kept d))
+      ∙ ap₂ (λ (fs : List Fault) (e : Cursor). first_fault (λ f. Err (shift c.at f)) fs (Ok e)) (faults_are c s a d) (after_is c s a d)
       ∙ sym (first-told (view c) stop (order_faults s d) (took d (next s d)))
 
   -- a step takes the decoded command
-  pub step-taken : (d : Decoded') → d ≡ decoded_at l c.at → Steps l c (taken c d)
+  pub step-taken : (d : Result Kept Refusal) → d ≡ decoded_at l c.at → Steps l c (taken c d)
   unfolding step_at step decoded_at
   step-taken d e = λ s a. ap (taken c) e ∙ by_decoded s a (decode w ws)
 
@@ -73,16 +71,16 @@ module _ (l : List ℕ) (c : Cursor) where
   inside_decoded (bad f) e long inside = tt
   inside_decoded (good d) e long inside = omega (arith, (decode-read w ws d e).enough, length-drop (suc c.at) l)
 
-  pub inside-after : (d : Decoded') → d ≡ decoded_at l c.at → length l < 2 ^ 62 → c.at < length l → InsideAfter c d
+  pub inside-after : (d : Result Kept Refusal) → d ≡ decoded_at l c.at → length l < 2 ^ 62 → c.at < length l → InsideAfter c d
   unfolding decoded_at
   inside-after d e long inside = rw e (inside_decoded (decode w ws) refl long inside)
 
 -- ---- the walk
 
 -- the walk from a cursor on, with what the cursor has counted
-abbrev resume : Cursor → Parsed → Walked
-resume c (refused f) = walked.Refused f
-resume c (accepted cs) = walked.Accepted (c.commands + length cs) (c.records + length (records 0 cs))
+abbrev resume : Cursor → Parsed → Result Counts Refusal
+resume c (refused f) = Err f
+resume c (accepted cs) = Ok (record { commands = c.commands + length cs; records = c.records + length (records 0 cs) })
 
 length-records : (p q : ℕ) (cs : List Command) → length (records p cs) ≡ length (records q cs)
 length-records p q [] = refl
@@ -107,11 +105,11 @@ resume_then : (c e : Cursor) (d : Command) (x : Parsed) → e.commands ≡ c.com
     → resume c (and_then d x) ≡ resume e x
 resume_then c e d (refused f) ec er = refl
 resume_then c e d (accepted cs) ec er =
-    ap₂ {C = Walked} (λ a b. walked.Accepted a b) (omega arith) (omega (arith, record_count_lem 0 d cs))
+    ap₂ {C = Result Counts Refusal} (λ a b. Ok (record { commands = a; records = b })) (omega arith) (omega (arith, record_count_lem 0 d cs))
 
 resume_origin : (x : Parsed) → walked_of x ≡ resume origin x
 resume_origin (refused f) = refl
-resume_origin (accepted cs) = ap₂ {C = Walked} (λ a b. walked.Accepted a b) (sym (zero-add (length cs))) (sym (zero-add (length (records 0 cs))))
+resume_origin (accepted cs) = ap₂ {C = Result Counts Refusal} (λ a b. Ok (record { commands = a; records = b })) (sym (zero-add (length cs))) (sym (zero-add (length (records 0 cs))))
 
 -- the walk from a state, as far as a cursor: it gives what the rest gives from the state met there
 record From (s : State) (l : List ℕ) (c : Cursor) : Type 0 where
@@ -151,7 +149,7 @@ module _ (l : List ℕ) (c : Cursor) (h : c.at < length l) where
   turn : Step → Parsed
   turn x = onward c.at (λ t k. walk t (suc c.at + k) 0 (drop (suc c.at + k) l)) x
 
-  by_stop : (x : Step) (f : Refusal) → view c x ≡ Refused f → resume c (turn x) ≡ walked.Refused f
+  by_stop : (x : Step) (f : Refusal) → view c x ≡ Err f → resume c (turn x) ≡ Err f
   unfolding turn
   by_stop (stop g) f e = cc
   by_stop (took d t) f e = let z : ◌≡◌ {A = ℕ} 0 1 = cc in absurd (omega arith)
@@ -160,7 +158,7 @@ module _ (l : List ℕ) (c : Cursor) (h : c.at < length l) where
     abbrev stepped : Step
     stepped = step g.met (get_or l c.at 0) (drop (suc c.at) l)
 
-    from-stop : (f : Refusal) → Steps l c (Refused f) → walked_of (walk s 0 0 l) ≡ walked.Refused f
+    from-stop : (f : Refusal) → Steps l c (Err f) → walked_of (walk s 0 0 l) ≡ Err f
     unfolding step_at turn
     from-stop f q = g.same ∙ ap (resume c) (walk_at g.met c.at l h) ∙ by_stop stepped f (sym (q g.met g.stands))
 
@@ -185,25 +183,25 @@ module _ (l : List ℕ) (c : Cursor) (h : c.at < length l) where
           },
         )
 
-    by_on : (x : Step) → stepped ≡ x → (e : Cursor) → On e ≡ view c x → (c.at < e.at) × From s l e
+    by_on : (x : Step) → stepped ≡ x → (e : Cursor) → Ok e ≡ view c x → (c.at < e.at) × From s l e
     by_on (stop f) ex e q = let z : ◌≡◌ {A = ℕ} 0 1 = cc in absurd (omega arith)
     by_on (took d t) ex e q =
         let is : behind c d t ≡ e = cc in
         subst (λ (y : Cursor). (c.at < y.at) × From s l y) is (from-behind d t ex)
 
-    from_on : (e : Cursor) → Steps l c (On e) → (c.at < e.at) × From s l e
+    from_on : (e : Cursor) → Steps l c (Ok e) → (c.at < e.at) × From s l e
     unfolding step_at
     from_on e q = by_on stepped refl e (q g.met g.stands)
 
-  pub walking_stop : (f : Refusal) → Walking l c → Steps l c (Refused f) → Walks (λ s. walk s 0 0 l) (walked.Refused f)
+  pub walking_stop : (f : Refusal) → Walking l c → Steps l c (Err f) → Walks (λ s. walk s 0 0 l) (Err f)
   unfolding Walking
   walking_stop f g q s a = sym (from-stop s (g s a) f q)
 
-  pub walking_on : (e : Cursor) → Walking l c → Steps l c (On e) → (c.at < e.at) × Walking l e
+  pub walking_on : (e : Cursor) → Walking l c → Steps l c (Ok e) → (c.at < e.at) × Walking l e
   unfolding Walking
   walking_on e g q = ((from_on (start []) (g (start []) (at_start [])) e q).0, λ s a. (from_on s (g s a) e q).1)
 
-pub walking_end : (l : List ℕ) (c : Cursor) → Walking l c → length l ≤ c.at → Walks (λ s. walk s 0 0 l) (walked.Accepted c.commands c.records)
+pub walking_end : (l : List ℕ) (c : Cursor) → Walking l c → length l ≤ c.at → Walks (λ s. walk s 0 0 l) (Ok (record { commands = c.commands; records = c.records }))
 unfolding Walking
 walking_end l c g h s a =
     let f = g s a in

@@ -1,18 +1,16 @@
 // The masks: the defined bits of each word of a command, by the row of the table and the word; and the bits of a word that its
 // mask does not define.
-//
-// As the table of rows, the table of masks is made once for a whole list and lent.
 #![tactic(auto)]
 
 ghost use Rattle.std.specs.Prelude.{◌≡◌, ◌<◌};
 ghost use Rattle.rules.specs.Word.{lowest_undefined, undefined, LowestOrNone};
-ghost use Rattle.table.specs.Tables.{row_count, mask_at, mask_table};
+ghost use Rattle.table.specs.Tables.{row_count, row_number, row_table, mask_at, mask_table};
 
 use rules::NO_BIT;
 use table::ROWS;
 
-// The table of masks: four words to a row.
-pub type Masks = [u32; ROWS as usize * 4];
+// Four words to a row: a form that is fixed (docs/DECISIONS.md).
+type Masks = [u32; ROWS as usize * 4];
 
 // "The masks show the defined bits, first word's header first." A word that a row does not have has every bit.
 const MASKS: Masks = [
@@ -50,18 +48,38 @@ const MASKS: Masks = [
     0x00000000, 0xFFFFFFFF, 0xFFFFFFFF, 0xFFFFFFFF,
 ];
 
-pub fn mask_table() -> Masks
-    ensures { result ≡ mask_table }
-{
-    MASKS
+// The table of rows and the table of masks: made once for a whole list, and lent.
+#[derive(Drop)]
+pub struct Tables {
+    rows: [u8; 256],
+    masks: Masks,
+    ghost rows_are: { rows ≡ row_table },
+    ghost masks_are: { masks ≡ mask_table },
 }
 
-// The mask of a word of a row's command.
-pub fn mask(masks: &Masks, row: u8, word: usize) -> u32
-    requires { (masks.now ≡ mask_table) × (row < row_count) × (word < 4) }
-    ensures { result ≡ mask_at row word }
-{
-    masks[row as usize * 4 + word]
+impl Tables {
+    pub fn new() -> Self
+        ensures { (result.rows ≡ row_table) × (result.masks ≡ mask_table) }
+    {
+        let mut rows = [table::UNKNOWN; 256];
+        table::fill_rows(&mut rows);
+        Tables { rows, masks: MASKS }
+    }
+
+    // The row of an id.
+    pub fn row(&self, id: u8) -> u8
+        ensures { result ≡ row_number id }
+    {
+        self.rows[id as usize]
+    }
+
+    // The mask of a word of a row's command.
+    pub fn mask(&self, row: u8, word: usize) -> u32
+        requires { (row < row_count) × (word < 4) }
+        ensures { result ≡ mask_at row word }
+    {
+        self.masks[row as usize * 4 + word]
+    }
 }
 
 // ---- undefined bits. Callers ask about a first word's header: so "id bits count as defined" (document 02, Ticket 6).
@@ -75,6 +93,7 @@ pub fn undefined(word: u32, mask: u32) -> bool
 
 // The lowest such bit, 32 where there is none: "the mask's complement .., one test, and the language's own count of trailing
 // zeros". The test is there for the reader: trailing zeros of 0 are 32.
+// stays a number: what may not change, `LowestOrNone` is 32 where there is none
 pub fn lowest_undefined(word: u32, mask: u32) -> u32
     ensures { (result ≡ lowest_undefined word mask) × LowestOrNone word mask result }
 {

@@ -1,7 +1,7 @@
 -- The first pair out of place, as the code has it.
 use Rattle.std.specs.Prelude.{ℕ, zero, suc, ◌+◌, ◌≤◌, ◌<◌, ◌≡◌, true, false, List, [], ◌∷◌, eqb, length, get_or}
-use Rattle.std.proofs.Math.Option.{Option, none, some}
-use Rattle.rules.specs.declared.Refusal.{Refusal}
+use Rattle.std.proofs.Math.Option.{Option}
+use Rattle.rules.specs.Verdict.{Refusal}
 use Rattle.rules.specs.Form.{read}
 use Rattle.rules.specs.Pci.{address, values, misplaced, outside}
 use Rattle.pairs.specs.View.{addresses}
@@ -13,10 +13,6 @@ behind zero ps = ps
 behind (suc n) [] = []
 behind (suc n) (a ∷ []) = []
 behind (suc n) (a ∷ v ∷ ps) = behind n ps
-
-abbrev pub or_else : Option Refusal → Refusal → Refusal
-or_else (some f) g = f
-or_else none g = g
 
 -- r of a command's pairs, from its first on, are there and in place, and the next is not
 pub record Leading (ps : List ℕ) (at words id r : ℕ) : Type 0 where

@@ -3,68 +3,103 @@
 
 ghost use Rattle.std.specs.Prelude.{◌≡◌, ◌<◌, length};
 ghost use Rattle.rules.specs.Pci.{values, misplaced, outside};
-ghost use Rattle.command.specs.View.{size_at};
-ghost use Rattle.misplaced.specs.View.{behind, or_else, Leading};
+ghost use Rattle.rules.specs.Returned.{numbered_refusal};
+ghost use Rattle.rules.specs.Form.{read};
+ghost use Rattle.list.specs.View.{or_else};
+ghost use Rattle.pairs.specs.View.{addresses};
+ghost use Rattle.placed.specs.View.{placed};
+ghost use Rattle.misplaced.specs.View.{behind, misplaced_from, Leading};
+ghost use Rattle.misplaced.specs.Laws.{values_fit, placed_parts, none_behind, pairs_passed, pairs_in_place};
 
-use rules::{NO_BIT, Refusal};
-use table::Group;
+use list::Walked;
+use rules::{Reason, Refusal};
+use source::Source;
 
-// The words of the command at a pair, of one that is cut too.
-fn size_at(pairs: &[u32], at: usize) -> usize
-    requires { at < length (values pairs.now) }
-    ensures { result ≡ size_at (values pairs.now) at }
-{
-    let w = pairs::value_at(pairs, at);
-    let g = Group {
-        header: words::header_of(w),
-        second: pairs::value_or_zero(pairs, at + 1),
-        third: pairs::value_or_zero(pairs, at + 2),
-        fourth: pairs::value_or_zero(pairs, at + 3),
-    };
-    command::size(words::id_of(w), g)
+// The list that pairs carry.
+pub struct Pairs {}
+
+impl Source for Pairs {
+    ghost words = { values };
+
+    ghost placed = { λ b at n id. placed id 0 (read (addresses b) at n) };
+
+    ghost fits = { values_fit };
+
+    ghost parts = { placed_parts };
+
+    #[tactic(auto, using(pairs::proofs::Pairs::pair_count))]
+    fn len(buffer: &[u32]) -> usize {
+        buffer.len() / 2
+    }
+
+    fn word(buffer: &[u32], at: usize) -> u32 {
+        pairs::value_at(buffer, at)
+    }
+
+    fn word_in_place(buffer: &[u32], at: usize, id: u8) -> bool {
+        pairs::address_at(buffer, at) == pairs::address(id, 0)
+    }
+
+    fn group_in_place(buffer: &[u32], at: usize, id: u8) -> bool {
+        placed::group_placed(buffer, at, id)
+    }
+
+    fn payload_in_place(buffer: &[u32], at: usize, count: usize, id: u8) -> bool {
+        placed::payload_placed(buffer, at, count, id)
+    }
+}
+
+impl Walked for Pairs {
+    ghost amiss = { λ b at. misplaced_from at b };
+
+    ghost ends = { none_behind };
+
+    ghost passes = { pairs_passed };
+
+    ghost in_place = { pairs_in_place };
+
+    fn refuse(buffer: &[u32], at: usize, f: Refusal) -> Refusal {
+        refuse_pairs(buffer, at, f)
+    }
 }
 
 // How many pairs of a command, from its first on, are there and stand at its addresses.
+#[tactic(auto, using(pairs::proofs::Pairs::pair_count))]
 fn leading(pairs: &[u32], at: usize, words: usize, id: u8) -> usize
     requires { at < length (values pairs.now) }
     ensures { Leading pairs.now at words id result }
 {
-    let n = pairs.len() / 2;
-    let mut i: usize = 0;
-    while i < words {
-        if n - at <= i {
-            return i;
-        }
+    let there = words.min(pairs.len() / 2 - at);
+    for i in 0..there {
         if pairs::address_at(pairs, at + i) != pairs::address(id, i) {
             return i;
         }
-        i += 1;
     }
-    words
+    there
 }
 
 // The first refusal 13 or 14 from a command's first pair on, else the one given.
+#[tactic(auto, using(pairs::proofs::Pairs::pair_count))]
 pub fn refuse_pairs(pairs: &[u32], start: usize, f: Refusal) -> Refusal
     requires { start < length (values pairs.now) }
-    ensures { result ≡ or_else (misplaced outside 0 start (behind start pairs.now)) f }
+    ensures { numbered_refusal result ≡ or_else (misplaced outside 0 start (behind start pairs.now)) (numbered_refusal f) }
 {
     let n = pairs.len() / 2;
+    // stays a `while`: an iterator over commands is no plainer, since the loop goes on by what it finds of each
     let mut at = start;
     while at < n {
-        let words = size_at(pairs, at);
+        let words = command::size_at::<Pairs>(pairs, at);
         let right = leading(pairs, at, words, words::id_of(pairs::value_at(pairs, at)));
         if right < words {
             if right < n - at {
                 return Refusal {
-                    number: 13,
+                    reason: Reason::WrongAddress,
                     word: at + right,
-                    bit: NO_BIT,
                 };
             }
             return Refusal {
-                number: 14,
+                reason: Reason::CommandCut,
                 word: at,
-                bit: NO_BIT,
             };
         }
         at += words;

@@ -3,14 +3,16 @@
 
 ghost use Rattle.std.specs.Prelude.{◌≡◌, cond, ◌/◌, ◌%◌, ltb};
 ghost use Rattle.text.specs.Text.{digit};
-ghost use Rattle.text.specs.Puts.{Puts, Bounded};
+ghost use Rattle.text.specs.Wrote.{Wrote};
 ghost use Rattle.names.specs.Names.{commands, refusals, refusal_row};
 
+use text::Writer;
+
 // The commands by their ids.
-pub fn commands() -> [u8; 413]
-    ensures { result ≡ commands }
+pub fn commands() -> &'static [u8; 413]
+    ensures { result.now ≡ commands }
 {
-    *b"00 flush
+    b"00 flush
 01 reset
 02 timer threshold
 03 PCI only
@@ -40,10 +42,10 @@ c4 LOD bias enables
 }
 
 // The refusals by their numbers: what each means, and what to look at.
-pub fn refusals() -> [u8; 1588]
-    ensures { result ≡ refusals }
+pub fn refusals() -> &'static [u8; 1588]
+    ensures { result.now ≡ refusals }
 {
-    *b" 1 more than 4,096 words - split the list
+    b" 1 more than 4,096 words - split the list
  2 the image has not 256 words - the caller's image, not the list
  3 unknown id - bits 31..24 of that word; often the command before has a wrong length
  4 id 03 or 04 - these go over PCI only, never in a list
@@ -73,10 +75,9 @@ fn tens(number: usize) -> u8
 }
 
 // The row of a refusal.
-pub fn put_refusal(text: &mut [u8], at: usize, number: usize) -> usize
-    requires { Bounded at (refusal_row number) }
-    ensures { Puts (refusal_row number) text.old at text.new result }
+// stays a number: what may not change, the number is the row's key in the text that is printed (`refusal_row`)
+pub fn put_refusal(writer: &mut Writer<'_>, number: usize)
+    ensures { Wrote (refusal_row number) writer.old writer.new }
 {
-    let table = refusals();
-    format::put_row(text, at, &table, tens(number), text::digit(number % 10))
+    format::put_row(writer, refusals(), tens(number), text::digit(number % 10));
 }

@@ -5,23 +5,23 @@ use mathlib.Core.Path.{◌≡◌, ap}
 use mathlib.Core.List.{List}
 use lib.ListN.{length}
 use lib.Seq.{sets}
-use Rattle.rules.specs.declared.Refusal.{Refusal}
+use Rattle.std.specs.Prelude.{Ok, Err}
+use Rattle.rules.specs.Verdict.{Refusal}
 use Rattle.rules.specs.Values.{refusal}
 use Rattle.rules.specs.Walk.{parse}
 use Rattle.rules.specs.Answer.{accepted_answer, refuse, commands_of}
 use Rattle.rules.specs.Pci.{pairs_all, to_pci}
 use Rattle.theory.proofs.Parse.{parse-accepted}
 use Rattle.theory.proofs.Pci.{pairs_length}
-use Rattle.list.specs.declared.Walked.TheVariants as walked
 use Rattle.list.specs.View.{walked_of}
 use Rattle.list.proofs.Answers.{counts, answer-refused, answer-short, answer-done}
 
 module _ (l image buffer : List ℕ) where
-  pub to_refused : (f : Refusal) → walked_of (parse image l) ≡ walked.Refused f → refuse f image buffer ≡ to_pci l image buffer
+  pub to_refused : (f : Refusal) → walked_of (parse image l) ≡ Err f → refuse f image buffer ≡ to_pci l image buffer
   unfolding to_pci
   to_refused f e = answer-refused pairs_all l image buffer (parse image l) f e
 
-  module _ (c k : ℕ) (e : walked_of (parse image l) ≡ walked.Accepted c k) where
+  module _ (c k : ℕ) (e : walked_of (parse image l) ≡ Ok (record { commands = c; records = k })) where
     -- two words for each of the list
     to_length : length (pairs_all (commands_of (parse image l))) ≡ 2 * length l
     to_length =

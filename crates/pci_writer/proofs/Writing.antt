@@ -1,7 +1,7 @@
 -- The pairs of a list: of some words, of a command, and of the commands passed.
 use Prim.Native.Nat.{ℕ, zero, suc, ◌+◌, ◌*◌, ◌≤◌, ◌<◌}
 use native.Mathlib.Nat.{add-zero}
-use native.Mathlib.Numerals.{add-one, add-two, add-three}
+use native.Mathlib.Numerals.{add-one}
 use native.Mathlib.Omega.{arith}
 use mathlib.Core.Path.{◌≡◌, refl, ap, ap₂, sym, ◌∙◌}
 use mathlib.Core.List.{List, [], ◌∷◌, ◌++◌, append_assoc, append-nil}
@@ -51,15 +51,6 @@ module _ (out l : List ℕ) (id at : ℕ) where
       sym (ap (λ (k : ℕ). sets out (2 * at) (pairs_from id 0 (read l at k))) (add-one i)
       ∙ ap (sets out (2 * at)) (from-add id 0 l at i)
       ∙ sets_append out (2 * at) ps (address id (0 + i) ∷ get_or l (at + i) 0 ∷ []) ∙ rw (n, z, add-one))
-
-  -- the pairs of a group, in two halves
-  pub four_pairs : sets (sets out (2 * at) (address id 0 ∷ get_or l at 0 ∷ address id 1 ∷ get_or l (at + 1) 0 ∷ [])) (2 * at + 4)
-      (address id 2 ∷ get_or l (at + 2) 0 ∷ address id 3 ∷ get_or l (at + 3) 0 ∷ [])
-      ≡ sets out (2 * at) (pairs_from id 0 (read l at 4))
-  four_pairs =
-      rw (add-one at, add-two at, add-three at)
-      (sym (sets_append out (2 * at) (address id 0 ∷ get_or l at 0 ∷ address id 1 ∷ get_or l (suc at) 0 ∷ [])
-      (address id 2 ∷ get_or l (suc (suc at)) 0 ∷ address id 3 ∷ get_or l (suc (suc (suc at))) 0 ∷ [])))
 
 -- ---- of a command
 

@@ -7,59 +7,22 @@ ghost use Rattle.std.specs.Prelude.{◌≡◌, ◌+◌, ◌*◌, ◌<◌, ◌≤
 ghost use Rattle.std.proofs.lemmas.List.Edits.{sets};
 ghost use Rattle.rules.specs.Form.{read};
 ghost use Rattle.rules.specs.Answer.{outcome, IsAccepted, commands_from};
+ghost use Rattle.rules.specs.Returned.{answer_of};
 ghost use Rattle.rules.specs.Pci.{command_pairs, pairs_from, pairs_all, to_pci};
 ghost use Rattle.command.specs.View.{size_at};
 ghost use Rattle.command.specs.Effects.{CommandAt, command_at};
 
-use list::Walked;
-use rules::Answer;
+use rules::{Accepted, Refusal};
 
-// The pair of a command of one word.
-fn write_single(list: &[u32], pairs: &mut [u32], at: usize, id: u8)
-    requires { (at < length list.now) × (2 * at + 2 ≤ length pairs.old) }
-    ensures { pairs.new ≡ sets pairs.old (2 * at) (pairs_from id 0 (read list.now at 1)) }
-{
-    pairs[2 * at] = pairs::address(id, 0);
-    pairs[2 * at + 1] = words::fetch(list, at);
-}
-
-// The pairs of a group.
-fn write_group(list: &[u32], pairs: &mut [u32], at: usize, id: u8)
-    requires { (at + 4 ≤ length list.now) × (2 * at + 8 ≤ length pairs.old) }
-    ensures { pairs.new ≡ sets pairs.old (2 * at) (pairs_from id 0 (read list.now at 4)) }
-{
-    let a = words::fetch(list, at);
-    let b = words::fetch(list, at + 1);
-    let c = words::fetch(list, at + 2);
-    let d = words::fetch(list, at + 3);
-    words::put4(
-        pairs,
-        2 * at,
-        pairs::address(id, 0),
-        a,
-        pairs::address(id, 1),
-        b,
-    );
-    words::put4(
-        pairs,
-        2 * at + 4,
-        pairs::address(id, 2),
-        c,
-        pairs::address(id, 3),
-        d,
-    );
-}
-
-// The pairs of a group with its payload.
+// Some words of a list as pairs: those of a command with this id, its first word at the position.
+#[inline(always)]
 fn write_words(list: &[u32], pairs: &mut [u32], at: usize, words: usize, id: u8)
     requires { (at + words ≤ length list.now) × (2 * at + 2 * words ≤ length pairs.old) × (length list.now ≤ 4096) }
     ensures { pairs.new ≡ sets pairs.old (2 * at) (pairs_from id 0 (read list.now at words)) }
 {
-    let mut i: usize = 0;
-    while i < words {
+    for i in 0..words {
         pairs[2 * (at + i)] = pairs::address(id, i);
         pairs[2 * (at + i) + 1] = words::fetch(list, at + i);
-        i += 1;
     }
 }
 
@@ -70,16 +33,13 @@ fn write_command(list: &[u32], pairs: &mut [u32], at: usize) -> usize
     ensures pairs_value { pairs.new ≡ sets pairs.old (2 * at) (command_pairs (command_at list.now at)) }
 {
     let id = words::id_of(words::fetch(list, at));
-    let words = command::size_at(list, at);
-    if words == 1 {
-        write_single(list, pairs, at, id);
-        return at + 1;
+    let words = command::size_at::<source::List>(list, at);
+    // each of the two sizes that most commands have is compiled without a loop
+    match words {
+        1 => write_words(list, pairs, at, 1, id),
+        4 => write_words(list, pairs, at, 4, id),
+        _ => write_words(list, pairs, at, words, id),
     }
-    if words == 4 {
-        write_group(list, pairs, at, id);
-        return at + 4;
-    }
-    write_words(list, pairs, at, words, id);
     at + words
 }
 
@@ -88,25 +48,21 @@ fn write_list(list: &[u32], image: &[u32], pairs: &mut [u32])
     requires { IsAccepted image.now list.now × (2 * length list.now ≤ length pairs.old) }
     ensures { pairs.new ≡ sets pairs.old 0 (pairs_all (commands_from image.now list.now)) }
 {
-    let mut at: usize = 0;
+    // stays a `while`: an iterator over commands is no plainer, since writing one says where the next is
+    let mut at = 0;
     while at < list.len() {
         at = write_command(list, pairs, at);
     }
 }
 
 // From a list and a register image to the list's writes over PCI.
-pub fn to_pci(list: &[u32], image: &[u32], pairs: &mut [u32]) -> Answer
-    ensures { outcome result image.now pairs.new ≡ to_pci list.now image.now pairs.old }
+pub fn to_pci(list: &[u32], image: &[u32], pairs: &mut [u32]) -> Result<Accepted, Refusal>
+    ensures { outcome (answer_of result) image.now pairs.new ≡ to_pci list.now image.now pairs.old }
 {
-    let w = list::check(list, image);
-    match w {
-        Walked::Refused(f) => list::refuse(f),
-        Walked::Accepted(commands, records) => {
-            if pairs.len() / 2 < list.len() {
-                return list::no_room(list.len());
-            }
-            write_list(list, image, pairs);
-            list::accepted(list.len(), commands, records, 2 * list.len())
-        }
+    let counts = list::check(list, image)?;
+    if pairs.len() / 2 < list.len() {
+        return Err(list::no_room(list.len()));
     }
+    write_list(list, image, pairs);
+    Ok(list::accepted(list.len(), counts, 2 * list.len()))
 }

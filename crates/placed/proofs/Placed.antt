@@ -1,7 +1,6 @@
 -- Addresses in place, one behind the other.
 use Prim.Native.Nat.{ℕ, suc, ◌+◌, ◌*◌}
 use native.Mathlib.Nat.{add-mod_right}
-use native.Mathlib.Numerals.{add-one, add-two, add-three}
 use native.Mathlib.Omega.{arith}
 use mathlib.Core.Path.{◌≡◌, refl, ap, ap₂, sym, ◌∙◌}
 use mathlib.Core.Bool.{Bool, true, false, ◌&&◌}
@@ -21,12 +20,6 @@ and-true : (b : Bool) → (b && true) ≡ b
 and-true true = refl
 and-true false = refl
 
-and_four : (a b c d : Bool) → ((a && b) && (c && d)) ≡ (a && (b && (c && (d && true))))
-and_four true true c true = refl
-and_four true true c false = refl
-and_four true false c d = refl
-and_four false b c d = refl
-
 placed_append : (id k : ℕ) (xs ys : List ℕ) → placed id k (xs ++ ys) ≡ (placed id k xs && placed id (k + length xs) ys)
 placed_append id k [] ys = ap (λ (j : ℕ). placed id j ys) (omega arith)
 placed_append id k (x ∷ xs) ys =
@@ -43,14 +36,6 @@ placed-add id l at i j =
 
 pub placed_one : (id : ℕ) (l : List ℕ) (at i : ℕ) → placed id 0 (read l at (i + 1)) ≡ (placed id 0 (read l at i) && eqb (get_or l (at + i) 0) (address id i))
 placed_one id l at i = placed-add id l at i 1 ∙ ap (λ (b : Bool). placed id 0 (read l at i) && b) (and-true (eqb (get_or l (at + i) 0) (address id i)))
-
--- four at once
-pub placed_four : (id : ℕ) (l : List ℕ) (at : ℕ)
-    → ((eqb (get_or l at 0) (address id 0) && eqb (get_or l (at + 1) 0) (address id 1)) && (eqb (get_or l (at + 2) 0) (address id 2) && eqb (get_or l (at + 3) 0) (address id 3)))
-    ≡ placed id 0 (read l at 4)
-placed_four id l at =
-    rw (add-one at, add-two at, add-three at)
-    (and_four (eqb (get_or l at 0) (address id 0)) (eqb (get_or l (suc at) 0) (address id 1)) (eqb (get_or l (suc (suc at)) 0) (address id 2)) (eqb (get_or l (suc (suc (suc at))) 0) (address id 3)))
 
 -- a command's addresses in turn
 pub placed_again : (id k : ℕ) (xs : List ℕ) → placed id (k + address_count id) xs ≡ placed id k xs

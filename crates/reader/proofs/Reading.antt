@@ -6,7 +6,7 @@ use mathlib.Core.List.{List}
 use borrow.Author.Tests.{lt-ltb, le-ltb}
 use lib.ListN.{length}
 use lib.Seq.{sets}
-use Rattle.rules.specs.declared.Refusal.{Refusal}
+use Rattle.rules.specs.Verdict.{Refusal}
 use Rattle.rules.specs.Command.{Command}
 use Rattle.rules.specs.Values.{refusal}
 use Rattle.rules.specs.Walk.{Parsed, refused, accepted, parse}
@@ -14,21 +14,21 @@ use Rattle.rules.specs.Image.{final}
 use Rattle.rules.specs.Records.{records, record_words}
 use Rattle.rules.specs.Answer.{accepted_answer, outcome, refuse, room, read_parsed, reading, commands_of, commands_from, records_from}
 use Rattle.theory.proofs.Verdict.{length-record_words}
-use Rattle.list.specs.declared.Walked.TheVariants as walked
+use Rattle.std.specs.Prelude.{Ok, Err}
 use Rattle.list.specs.View.{walked_of}
 use Rattle.list.proofs.Answers.{Counts, counts, put_front}
 
 module _ (l image buffer : List ℕ) where
-  by_refused : (x : Parsed) (f : Refusal) → walked_of x ≡ walked.Refused f → refuse f image buffer ≡ read_parsed l image buffer x
+  by_refused : (x : Parsed) (f : Refusal) → walked_of x ≡ Err f → refuse f image buffer ≡ read_parsed l image buffer x
   by_refused (refused g) f e = let eg : f ≡ g = cc in ap (λ (x : Refusal). refuse x image buffer) eg
   by_refused (accepted cs) f e = let z : ◌≡◌ {A = ℕ} 0 1 = cc in absurd (omega arith)
 
   -- refusals 1 to 10
-  pub read-refused : (f : Refusal) → walked_of (parse image l) ≡ walked.Refused f → refuse f image buffer ≡ reading l image buffer
+  pub read-refused : (f : Refusal) → walked_of (parse image l) ≡ Err f → refuse f image buffer ≡ reading l image buffer
   unfolding reading
   read-refused f e = by_refused (parse image l) f e
 
-  module _ (c k : ℕ) (e : walked_of (parse image l) ≡ walked.Accepted c k) where
+  module _ (c k : ℕ) (e : walked_of (parse image l) ≡ Ok (record { commands = c; records = k })) where
     cs : List Command
     cs = commands_of (parse image l)
 

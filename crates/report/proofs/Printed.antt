@@ -6,7 +6,7 @@ use mathlib.Core.List.{List, ◌++◌}
 use borrow.Author.Tests.{lt-ltb, le-ltb, eq-eqb, ne_eqb}
 use lib.ListN.{length}
 use lib.Seq.{sets}
-use Rattle.rules.specs.declared.Answer.{Answer}
+use Rattle.rules.specs.Verdict.{Answer}
 use Rattle.rules.specs.Answer.{Outcome, reading}
 use Rattle.endian.specs.Words.{chunks, words_of}
 use Rattle.text.specs.Text.{ascii}

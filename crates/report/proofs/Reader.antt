@@ -5,7 +5,7 @@ use mathlib.Core.Path.{◌≡◌, refl, ap, ◌∙◌}
 use mathlib.Core.List.{List, [], ◌∷◌, ◌++◌}
 use borrow.Author.Tests.{le-ltb, eq-eqb}
 use lib.ListN.{length}
-use Rattle.rules.specs.declared.Refusal.{Refusal}
+use Rattle.rules.specs.Verdict.{Refusal}
 use Rattle.rules.specs.Command.{Command}
 use Rattle.rules.specs.Walk.{refused, accepted, parse}
 use Rattle.rules.specs.Image.{final}

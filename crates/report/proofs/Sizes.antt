@@ -1,13 +1,13 @@
 -- How much the reader writes, and how long a listing can be.
 use Prim.Native.Nat.{ℕ, suc, ◌+◌, ◌*◌, ◌/◌, ◌%◌, ◌≤◌}
 use native.Mathlib.Omega.{arith}
-use mathlib.Core.Path.{◌≡◌, ap}
+use mathlib.Core.Path.{◌≡◌}
 use mathlib.Core.Bool.{Bool, true, false, cond}
 use mathlib.Core.List.{List, [], ◌∷◌, ◌++◌}
 use lib.Dec.{eqb, ltb}
 use lib.ListN.{length, length-append}
-use Rattle.rules.specs.declared.Answer.{Answer}
-use Rattle.rules.specs.declared.Refusal.{Refusal}
+use Rattle.rules.specs.Verdict.{Answer}
+use Rattle.rules.specs.Verdict.{Refusal}
 use Rattle.rules.specs.Values.{refusal}
 use Rattle.rules.specs.Table.{is_setting}
 use Rattle.rules.specs.Command.{Command, words_all}
@@ -20,7 +20,6 @@ use Rattle.theory.proofs.Reading.{reading-cases}
 use Rattle.theory.proofs.Parse.{parse-accepted}
 use Rattle.endian.specs.Words.{chunks, words_of}
 use Rattle.text.specs.Text.{ascii}
-use Rattle.text.specs.Puts.{Bounded}
 use Rattle.text.proofs.Numbers.{length-cond}
 use Rattle.lines.specs.Lines.{line, counts_line, refused_line}
 use Rattle.report.specs.Listing.{read_bytes, listed, text_of, printed}
@@ -65,12 +64,11 @@ module _ (ws image buffer : List ℕ) where
       let lines : length (chunks line out) ≤ 81920 = omega (arith, lines-length 0 cs (omega arith)) in
       rw (written-accept ws cs out (final image cs) buffer) (omega (arith, listed-length o.answer out 81920 lines))
 
-  pub reading-length : length (text_of (reading ws image buffer)) ≤ 82003
+  reading-length : length (text_of (reading ws image buffer)) ≤ 82003
   reading-length = reading-cases ws image buffer (λ o. length (text_of o) ≤ 82003) (λ f. refuse-length f image buffer) accept-length
 
-pub reading_bounded : (ws image buffer : List ℕ) {o : Outcome} → o ≡ reading ws image buffer → Bounded 0 (text_of o)
-reading_bounded ws image buffer {o} e =
-    record { bound = omega (arith, ap (λ (x : Outcome). length (text_of x)) e, reading-length ws image buffer) }
+pub reading-few : (ws image buffer : List ℕ) {o : Outcome} → o ≡ reading ws image buffer → length (text_of o) ≤ 82003
+reading-few ws image buffer e = rw e (reading-length ws image buffer)
 
 -- no listing is longer
 pub printed-length : (input image records text : List ℕ) → (printed input image records text).size ≤ 82003

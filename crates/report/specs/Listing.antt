@@ -1,7 +1,7 @@
 -- The listing of some bytes (document 01, "The listing").
 use Rattle.std.specs.Prelude.{ℕ, ◌/◌, ◌%◌, cond, List, [], ◌++◌, eqb, ltb, length}
 use Rattle.std.proofs.lemmas.List.Edits.{sets}
-use Rattle.rules.specs.declared.Answer.{Answer}
+use Rattle.rules.specs.Verdict.{Answer}
 use Rattle.rules.specs.Values.{refusal}
 use Rattle.rules.specs.Answer.{Outcome, refuse, reading, written}
 use Rattle.endian.specs.Words.{chunks, words_of}

@@ -4,39 +4,50 @@
 ghost use Rattle.std.specs.Prelude.{◌≡◌, ◌≤◌, length, take};
 ghost use Rattle.std.proofs.lemmas.List.Edits.{sets};
 ghost use Rattle.rules.specs.Answer.{reading};
-ghost use Rattle.text.specs.Puts.{Puts, Bounded};
+ghost use Rattle.rules.specs.Returned.{number_of, answer_of};
+ghost use Rattle.text.specs.Puts.{Puts};
+ghost use Rattle.text.specs.Wrote.{Wrote};
+ghost use Rattle.lines.specs.Lines.{refused_line};
 ghost use Rattle.report.specs.Listing.{words_read, listed, printing, printed};
 ghost use Rattle.report.specs.Prints.{Prints};
 
-use rules::Answer;
+use rules::{Accepted, Reason, Refusal};
+use text::Writer;
 
-// The listing of an answer, from the words of the records.
-fn put_answer(text: &mut [u8], a: Answer, records: &[u32]) -> usize
-    requires { Bounded 0 (listed a records.now) }
-    ensures { Puts (listed a records.now) text.old 0 text.new result }
+fn put_refused(text: &mut [u8], reason: Reason, word: usize) -> usize
+    ensures { Puts (refused_line (number_of reason) word) text.old 0 text.new result }
 {
-    if a.verdict != 0 {
-        return lines::put_refused(text, words::wide(a.verdict), a.position);
-    }
-    let at = text::put_all(text, 0, b"at id words head\n");
-    let at = lines::put_records(text, at, b"", b"%d %2 %d %6\n", records);
-    lines::put_counts(text, at, a.commands, a.records)
+    let mut writer = Writer::new(text, 0);
+    lines::put_refused(&mut writer, reason.number() as usize, word);
+    writer.position()
 }
 
-// The listing of the list that is the first n words, from an image.
-fn put_list(
-    words: &[u32],
-    n: usize,
-    image: &mut [u32],
-    records: &mut [u32],
-    text: &mut [u8],
-) -> usize
-    requires { n ≤ length words.now }
-    ensures { Prints (reading (take n words.now) image.old records.old) image.new records.new text.old text.new result }
+// The listing of an answer, from the buffer that the records were written to.
+#[tactic(auto, unfolding(crate::specs::Listing::listed))]
+fn put_answer(writer: &mut Writer<'_>, answer: Result<Accepted, Refusal>, records: &[u32])
+    requires { (answer_of answer).words ≤ length records.now }
+    ensures { Wrote (listed (answer_of answer) (take (answer_of answer).words records.now)) writer.old writer.new }
 {
-    let a = reader::read(&words[..n], image, records);
-    let k = a.words;
-    put_answer(text, a, &records[..k])
+    match answer {
+        Err(refusal) => {
+            lines::put_refused(writer, refusal.reason.number() as usize, refusal.word);
+        }
+        Ok(a) => {
+            writer.put_all(b"at id words head\n");
+            lines::put_records(writer, b"", b"%d %2 %d %6\n", &records[..a.words]);
+            lines::put_counts(writer, a.commands, a.records);
+        }
+    }
+}
+
+// The listing of a list, from an image.
+fn put_list(text: &mut [u8], list: &[u32], image: &mut [u32], records: &mut [u32]) -> usize
+    ensures { Prints (reading list.now image.old records.old) image.new records.new text.old text.new result }
+{
+    let answer = reader::read(list, image, records);
+    let mut writer = Writer::new(text, 0);
+    put_answer(&mut writer, answer, records);
+    writer.position()
 }
 
 // The listing of the list in some bytes, from an image. It answers the listing's length, at most 82,003 bytes; what does
@@ -53,11 +64,11 @@ pub fn listing(
     ensures upper_bound { result ≤ 82003 }
 {
     if 16384 < input.len() {
-        return lines::put_refused(text, 1, 4096);
+        return put_refused(text, Reason::TooManyWords, 4096);
     }
     if input.len() % 4 != 0 {
-        return lines::put_refused(text, 12, input.len() / 4);
+        return put_refused(text, Reason::BrokenWord, input.len() / 4);
     }
     endian::load(input, words);
-    put_list(words, input.len() / 4, image, records, text)
+    put_list(text, &words[..input.len() / 4], image, records)
 }

@@ -1,11 +1,11 @@
 -- The whole answers of the reader, the normaliser and the measurer (document 01, "Verdicts and what stays"; document 02,
 -- Ticket 4).
 use Rattle.std.specs.Prelude.{ℕ, ◌/◌, ◌≡◌, Bool, cond, List, [], ◌∷◌, ◌++◌, eqb, ltb, length, get_or, take, drop}
-use Rattle.rules.specs.declared.Answer.{Answer}
+use Rattle.rules.specs.Verdict.{Answer}
 use Rattle.rules.specs.Word.{LowestUndefinedAt}
 use Rattle.rules.specs.Command.{Command, words_all}
 use Rattle.rules.specs.Place.{word_mask}
-use Rattle.rules.specs.declared.Refusal.{Refusal}
+use Rattle.rules.specs.Verdict.{Refusal}
 use Rattle.rules.specs.Values.{refusal}
 use Rattle.rules.specs.Walk.{Parsed, refused, accepted, parse}
 use Rattle.rules.specs.Image.{final}

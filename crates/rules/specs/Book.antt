@@ -1,8 +1,8 @@
 -- A scene book: scenes in one file, behind a table of contents (document 02, Ticket 8).
 use Rattle.std.specs.Prelude.{ℕ, zero, suc, ◌+◌, ◌*◌, ◌/◌, ◌%◌, ◌≤◌, Bool, true, cond, not, ◌&&◌, ◌||◌, List, [], ◌∷◌, ◌++◌, eqb, leb, ltb, length, get_or, take, drop}
 use Rattle.rules.specs.declared.Entry.{Entry}
-use Rattle.rules.specs.declared.SceneAnswer.{SceneAnswer}
-use Rattle.rules.specs.declared.BookAnswer.{BookAnswer}
+use Rattle.rules.specs.Verdict.{SceneAnswer}
+use Rattle.rules.specs.Verdict.{BookAnswer}
 use Rattle.rules.specs.Session.{part}
 
 -- ---- contents

@@ -2,7 +2,7 @@
 -- measured, the masks of a list's words, the guide's own PCI writes, sessions, lists in the other byte orders, and scene books, in
 -- one table.
 use Rattle.std.specs.Prelude.{ℕ, zero, suc, Bool, true, ◌&&◌, ◌||◌, List, [], ◌∷◌, ◌++◌, eqb, length, get_or, drop, replicate, set}
-use Rattle.rules.specs.declared.Refusal.{Refusal}
+use Rattle.rules.specs.Verdict.{Refusal}
 use Rattle.rules.specs.Place.{word_mask}
 use Rattle.rules.specs.Form.{equal}
 use Rattle.rules.specs.Answer.{answer_words, Outcome, normalising, measuring, written}

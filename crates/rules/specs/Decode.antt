@@ -5,7 +5,7 @@ use Rattle.std.proofs.Math.Option.{Option, none, some}
 use Rattle.rules.specs.Word.{id_of, header_of}
 use Rattle.rules.specs.Table.{Row, row_of}
 use Rattle.rules.specs.Command.{Command, own_size, rest_size}
-use Rattle.rules.specs.declared.Refusal.{Refusal}
+use Rattle.rules.specs.Verdict.{Refusal}
 use Rattle.rules.specs.Values.{refusal, first_fault, faults}
 
 -- a command, or a refusal whose word is counted from the command's first

@@ -1,3 +1,4 @@
+pub mod Verdict
 pub mod Word
 pub mod Table
 pub mod Command
@@ -15,4 +16,5 @@ pub mod Pci
 pub mod Session
 pub mod Swap
 pub mod Book
+pub mod Returned
 pub mod Cases

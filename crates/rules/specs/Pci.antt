@@ -1,7 +1,7 @@
 -- A list as the writes that a host makes over PCI (document 02, Ticket 1).
 use Rattle.std.specs.Prelude.{ℕ, zero, suc, ◌+◌, ◌*◌, ◌-◌, ◌%◌, cond, not, List, [], ◌∷◌, ◌++◌, eqb, ltb, length}
 use Rattle.std.proofs.Math.Option.{Option, none, some}
-use Rattle.rules.specs.declared.Refusal.{Refusal}
+use Rattle.rules.specs.Verdict.{Refusal}
 use Rattle.rules.specs.Word.{id_of}
 use Rattle.rules.specs.Command.{Command, words, command_size}
 use Rattle.rules.specs.Values.{refusal}

@@ -1,7 +1,7 @@
 -- Several lists in one call, over one image and one record buffer (document 02, Ticket 5).
 use Rattle.std.specs.Prelude.{ℕ, ◌+◌, ◌*◌, ◌/◌, ◌≤◌, ◌<◌, ◌≡◌, Bool, cond, ◌||◌, List, [], ◌∷◌, ◌++◌, eqb, leb, ltb, length, get_or, take, drop}
-use Rattle.rules.specs.declared.Answer.{Answer}
-use Rattle.rules.specs.declared.SessionAnswer.{SessionAnswer}
+use Rattle.rules.specs.Verdict.{Answer}
+use Rattle.rules.specs.Verdict.{SessionAnswer}
 use Rattle.rules.specs.Values.{refusal}
 use Rattle.rules.specs.Answer.{Outcome, answer_words, accepted_answer, refuse, reading}
 

@@ -1,7 +1,7 @@
 -- The rules on a command's own words: undefined bits, illegal values and clashes (document 01, "The commands"; document 02,
 -- Tickets 2 and 3).
 use Rattle.std.specs.Prelude.{ℕ, suc, ◌+◌, Bool, cond, not, ◌&&◌, ◌||◌, List, [], ◌∷◌, ◌++◌, eqb, leb, ltb, get_or}
-use Rattle.rules.specs.declared.Refusal.{Refusal}
+use Rattle.rules.specs.Verdict.{Refusal}
 use Rattle.rules.specs.Word.{bits, lowest_undefined, undefined}
 use Rattle.rules.specs.Table.{Row}
 use Rattle.rules.specs.Command.{more_masks}

@@ -2,7 +2,7 @@
 use Rattle.std.specs.Prelude.{ℕ, zero, suc, Bool, true, false, not, ◌&&◌, List, [], ◌∷◌, eqb, ltb, length}
 use Rattle.rules.specs.Table.{is_begin, is_base}
 use Rattle.rules.specs.Command.{Command}
-use Rattle.rules.specs.declared.Refusal.{Refusal}
+use Rattle.rules.specs.Verdict.{Refusal}
 use Rattle.rules.specs.Values.{refusal, shift, Fault, fault, first_fault}
 use Rattle.rules.specs.Decode.{Decoded, bad, good, decode}
 use Rattle.rules.specs.Image.{apply}

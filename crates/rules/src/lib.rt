@@ -1,36 +1,125 @@
 // The rules of XP10 command lists are the definitions in specs/, held against the papers' cases in proofs/.
-// No code stands here: only the values that the definitions give and the functions above return.
+// Here stands only what the functions above return. specs/Returned.antt says which verdict each value stands for.
 #![tactic(auto)]
 
-// "A bad list is refused with a number and a word position." "With 6, the answer now also gives the number of the lowest
-// undefined bit set in that word; every other verdict gives 32 there."
-#[derive(Clone, Copy)]
-pub struct Refusal {
-    // side by side, here and below, so that a refusal and an answer are no larger for the bit
-    pub number: u32,
-    pub bit: u32,
-    pub word: usize,
+ghost use Rattle.std.specs.Prelude.{◌≡◌, ◌+◌, ◌^◌, ◌<◌};
+ghost use Rattle.rules.specs.Values.{shift};
+ghost use Rattle.rules.specs.Returned.{number_of, bit_of, numbered_refusal};
+
+// Why a list, an image, pairs or a book are refused. Each reason has a number of its own (`number_of`).
+#[derive(Clone, Copy, PartialEq, Eq)]
+pub enum Reason {
+    TooManyWords,
+    ImageSize,
+    UnknownId,
+    PciOnly,
+    GroupCut,
+    // "With 6, the answer now also gives the number of the lowest undefined bit set in that word"
+    UndefinedBit(u32),
+    IllegalValue,
+    PayloadCut,
+    NoBegin,
+    NoRoom,
+    BrokenWord,
+    WrongAddress,
+    CommandCut,
+    PageMaximum,
+    PageMinimum,
+    RasterBits,
+    FloatBit,
+    PlaneRange,
+    OutsideBuffer,
+    NoSuchMode,
+    BadContents,
+    NumbersFall,
+    BodiesMisplaced,
+    NoScene,
 }
 
 // The bit of every verdict but 6.
+// stays a number: what may not change, the answer's sixth number (`answer_words`) is 32 where there is no bit
 pub const NO_BIT: u32 = 32;
 
-// "The answer has verdict, position, commands, records, and words written to the lent buffer", and the bit.
+impl Reason {
+    pub fn number(self) -> u32
+        ensures { result ≡ number_of self }
+    {
+        match self {
+            Reason::TooManyWords => 1,
+            Reason::ImageSize => 2,
+            Reason::UnknownId => 3,
+            Reason::PciOnly => 4,
+            Reason::GroupCut => 5,
+            Reason::UndefinedBit(_) => 6,
+            Reason::IllegalValue => 7,
+            Reason::PayloadCut => 9,
+            Reason::NoBegin => 10,
+            Reason::NoRoom => 11,
+            Reason::BrokenWord => 12,
+            Reason::WrongAddress => 13,
+            Reason::CommandCut => 14,
+            Reason::PageMaximum => 15,
+            Reason::PageMinimum => 16,
+            Reason::RasterBits => 17,
+            Reason::FloatBit => 18,
+            Reason::PlaneRange => 19,
+            Reason::OutsideBuffer => 20,
+            Reason::NoSuchMode => 21,
+            Reason::BadContents => 22,
+            Reason::NumbersFall => 23,
+            Reason::BodiesMisplaced => 24,
+            Reason::NoScene => 25,
+        }
+    }
+
+    pub fn bit(self) -> u32
+        ensures { result ≡ bit_of self }
+    {
+        match self {
+            Reason::UndefinedBit(bit) => bit,
+            _ => NO_BIT,
+        }
+    }
+}
+
+// "A bad list is refused with a number and a word position."
 #[derive(Clone, Copy)]
-pub struct Answer {
-    pub verdict: u32,
-    pub bit: u32,
+pub struct Refusal {
+    pub reason: Reason,
+    pub word: usize,
+}
+
+impl Refusal {
+    // The refusal of a command's word, where the command stands at a position.
+    pub fn behind(self, at: usize) -> Self
+        requires { at + self.word < 2 ^ 64 }
+        ensures { numbered_refusal result ≡ shift at (numbered_refusal self) }
+    {
+        Refusal {
+            reason: self.reason,
+            word: at + self.word,
+        }
+    }
+}
+
+// What the answer to an accepted list has: the list's length, its commands and records, and the words written.
+#[derive(Clone, Copy)]
+pub struct Accepted {
     pub position: usize,
     pub commands: usize,
     pub records: usize,
     pub words: usize,
 }
 
-// The answer of a call on several lists, and how many of them are applied.
+// What a call on several lists has: sums over the lists applied, how many they are, and how the last call ended: the position
+// of an accepted list, or the refusal.
 #[derive(Clone, Copy)]
-pub struct SessionAnswer {
-    pub answer: Answer,
+pub struct Session {
+    pub commands: usize,
+    pub records: usize,
+    pub words: usize,
     pub lists: usize,
+    pub end: Result<usize, Refusal>,
 }
 
 // Of a book, "Each entry is three words: scene number, start, length."
@@ -41,17 +130,9 @@ pub struct Entry {
     pub length: usize,
 }
 
-// The verdict of a question for a scene, and where in the book its words are.
+// Where in its book a scene's words are.
 #[derive(Clone, Copy)]
-pub struct SceneAnswer {
-    pub verdict: u32,
+pub struct Scene {
     pub start: u32,
     pub length: u32,
-}
-
-// The verdict of a book's writer, and the words written.
-#[derive(Clone, Copy)]
-pub struct BookAnswer {
-    pub verdict: u32,
-    pub words: usize,
 }

@@ -3,64 +3,51 @@
 // their bytes. The text and the words of each go to standard output.
 #![tactic(auto)]
 
-ghost use Rattle.std.specs.Prelude.{◌≡◌, ◌<◌, length};
+ghost use Rattle.std.specs.Prelude.{length};
+ghost use Rattle.std.specs.Iterator.{at_most};
 
 use desk::Task;
 
-fn task_of(number: u8) -> Task {
-    match number {
-        0 => Task::Show,
-        1 => Task::Image,
-        2 => Task::Normalise,
-        3 => Task::Pci,
-        _ => Task::List,
+#[derive(Clone, Copy)]
+struct Case<'a> {
+    task: Task,
+    input: &'a [u8],
+    image: &'a [u8],
+}
+
+// The cases that are left.
+#[derive(Drop)]
+struct Cases<'a>(&'a [u8]);
+
+impl<'a> Iterator for Cases<'a> {
+    type Item = Case<'a>;
+
+    ghost remaining = { λ s. at_most (length s.0.now) };
+
+    fn next(&mut self) -> Option<Case<'a>> {
+        let ([number, n0, n1, m0, m1], rest) = self.0.split_first_chunk::<5>()?;
+        let (input, rest) = rest.split_at_checked(u16::from_le_bytes([*n0, *n1]) as usize)?;
+        let (image, rest) = rest.split_at_checked(u16::from_le_bytes([*m0, *m1]) as usize)?;
+        self.0 = rest;
+        let task = Task::try_from(*number).unwrap_or(Task::List);
+        Some(Case { task, input, image })
     }
 }
 
-fn run_one(rt: HostRuntime, task: Task, input: &[u8], image: &[u8]) {
-    let mut text = desk::text_buffer();
-    let mut bytes = desk::word_buffer();
-    let made = desk::run(task, input, image, &mut text, &mut bytes);
+fn run_one(rt: HostRuntime, case: Case) {
+    let mut text = [0u8; desk::TEXT];
+    let mut words = [0u8; desk::WORDS];
+    let made = desk::run(case.task, case.input, case.image, &mut text, &mut words);
     let _ = rt.write_all(&text[..made.text]);
-    let _ = rt.write_all(&bytes[..made.out]);
-}
-
-fn length_of(low: u8, high: u8) -> usize
-    ensures { result < 65536 }
-{
-    (low as usize) + (high as usize) * 256
-}
-
-fn run_all(rt: HostRuntime, cases: &[u8]) {
-    let mut at = 0;
-    while 5 <= cases.len() - at {
-        let start = at + 5;
-        let n = length_of(cases[at + 1], cases[at + 2]);
-        let m = length_of(cases[at + 3], cases[at + 4]);
-        if cases.len() - start < n + m {
-            return;
-        }
-        let middle = start + n;
-        let end = middle + m;
-        run_one(
-            rt,
-            task_of(cases[at]),
-            &cases[start..middle],
-            &cases[middle..end],
-        );
-        at = end;
+    if let Some(n) = made.out {
+        let _ = rt.write_all(&words[..n]);
     }
-}
-
-// Only its length is told, which lending it needs.
-fn case_buffer() -> [u8; 400000]
-    ensures { 400000 ≡ length result }
-{
-    [0; 400000]
 }
 
 fn main(rt: HostRuntime) {
-    let mut cases = case_buffer();
+    let mut cases = [0u8; 400000];
     let (n, _) = streams::read_full(&mut rt.stdin(), &mut cases);
-    run_all(rt, &cases[..n]);
+    for case in Cases(&cases[..n]) {
+        run_one(rt, case);
+    }
 }

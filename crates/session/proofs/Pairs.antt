@@ -1,33 +1,43 @@
 -- One pair of a session, as the code reads it: a part of the words, and the rest of the record buffer.
-use Prim.Native.Nat.{ℕ, ◌+◌, ◌-◌, ◌≤◌}
+use Prim.Native.Nat.{ℕ, ◌+◌, ◌-◌, ◌*◌, ◌/◌, ◌<◌, ◌≤◌, zero, suc}
 use native.Mathlib.Omega.{arith}
-use mathlib.Core.Path.{◌≡◌, ap, sym, ◌∙◌, subst}
-use mathlib.Core.Bool.{Bool, true, false, cond}
-use mathlib.Core.List.{List, [], ◌++◌, append-nil}
-use borrow.Author.Rules.{part_to_end}
-use borrow.Rule.Slice.PartMut.{put_mid}
-use lib.ListN.{length, take, drop}
-use lib.Seq.{drop-drop, drop-length}
-use Rattle.rules.specs.declared.Answer.{Answer}
-use Rattle.rules.specs.declared.SessionAnswer.{SessionAnswer}
+use mathlib.Core.Path.{◌≡◌, refl, ap, sym, ◌∙◌, subst}
+use mathlib.Core.Bool.{Bool, true, false}
+use mathlib.Core.List.{List, [], ◌∷◌}
+use lib.ListN.{length, get_or}
+use Rattle.std.specs.Prelude.{◌≢◌, ◌↔◌, IsTrue}
+use Rattle.std.specs.Simd.{first_chunks}
 use Rattle.rules.specs.Values.{refusal}
-use Rattle.rules.specs.Answer.{Outcome, refused_answer, reading}
-use Rattle.rules.specs.Session.{added, joined, part, outside, pair_call, with_pair}
+use Rattle.rules.specs.Answer.{Outcome, outcome, refused_answer, reading}
+use Rattle.rules.specs.Session.{part, outside, pair_call}
 use Rattle.theory.proofs.Counts.{Counts}
 use Rattle.theory.proofs.Session.{call_counts}
+use Rattle.session.specs.Call.{IsFew}
 
--- a list is one, or none
-pub one_at_most : (b : Bool) → cond b 1 0 ≤ 1
-one_at_most true = omega arith
-one_at_most false = omega arith
+pub not_refused : (verdict : ℕ) {b : Bool} → (IsTrue b ↔ (verdict ≢ 0)) → b ≡ false → verdict ≡ 0
+not_refused zero i e = refl
+not_refused (suc n) i e = let t = i.1 (λ z. absurd (omega arith)) in let f : ◌≡◌ {A = Bool} false true = sym e ∙ t in cc
+
+-- ---- the pairs of a table
+
+pub pair_words : (table : List ℕ) (n i : ℕ) → i < n → n ≤ length table / 2
+    → (get_or (get_or (first_chunks 2 n table) i []) 0 0 ≡ get_or table (2 * i) 0) × (get_or (get_or (first_chunks 2 n table) i []) 1 0 ≡ get_or table (2 * i + 1) 0)
+pair_words (a ∷ v ∷ table) (suc n) zero h k = (refl, refl)
+pair_words (a ∷ v ∷ table) (suc n) (suc i) h k =
+    let p = pair_words table n i (omega arith) (omega arith) in
+    let first : 2 * suc i ≡ suc (suc (2 * i)) = omega arith in
+    let second : 2 * suc i + 1 ≡ suc (suc (2 * i + 1)) = omega arith in
+    (p.0 ∙ ap (λ (j : ℕ). get_or (a ∷ v ∷ table) j 0) (sym first), p.1 ∙ ap (λ (j : ℕ). get_or (a ∷ v ∷ table) j 0) (sym second))
+pair_words table zero i h k = absurd (omega arith)
+pair_words [] (suc n) i h k = absurd (omega arith)
+pair_words (a ∷ []) (suc n) i h k = absurd (omega arith)
 
 -- ---- the call for a pair, by the numbers that were read from the table
 
 module _ (ws image buffer : List ℕ) (lists start n first count : ℕ) (first-is : first ≡ start) (count-is : count ≡ n) where
-  pub call-outside : (a : Answer) → a ≡ refused_answer (refusal 20 0) → outside ws first count lists ≡ true
-      → record { answer = a; image = image; buffer = buffer } ≡ pair_call ws start n lists image buffer
+  pub call-outside : outside ws first count lists ≡ true → outcome (refused_answer (refusal 20 0)) image buffer ≡ pair_call ws start n lists image buffer
   unfolding pair_call
-  call-outside a e t = rw (e, ← first-is, ← count-is, t)
+  call-outside t = rw (← first-is, ← count-is, t)
 
   pub call-inside : (o : Outcome) → o ≡ reading (part ws first (first + count - first)) image buffer
       → outside ws first count lists ≡ false → o ≡ pair_call ws start n lists image buffer
@@ -36,24 +46,7 @@ module _ (ws image buffer : List ℕ) (lists start n first count : ℕ) (first-i
       let k : first + count - first ≡ count = omega arith in
       rw (← first-is, ← count-is, t) (rw k at e)
 
--- ---- the session with it
-
-module _ (ws image xs : List ℕ) (s : SessionAnswer) (start n : ℕ) (o : Outcome)
-    (is : o ≡ pair_call ws start n s.lists image (take (length xs - s.answer.words) (drop s.answer.words xs))) where
-  pub few : (o.answer.commands ≤ 4096) × (o.answer.records ≤ 4096) × (o.answer.words ≤ 16384)
-  few =
-      let c = subst (λ (p : Outcome). Counts p (take (length xs - s.answer.words) (drop s.answer.words xs))) (sym is) (call_counts ws start n s.lists image _) in
-      (c.commands, c.records, omega (arith, c.records, c.words))
-
-  -- behind the rest of the buffer there is nothing
-  pub next-is : s.answer.words ≤ length xs → (r : SessionAnswer) → r ≡ added s o.answer
-      → record { session = r; image = o.image; buffer = put_mid s.answer.words (length xs - s.answer.words) xs o.buffer }
-      ≡ with_pair ws start n (record { session = s; image = image; buffer = xs })
-  next-is h r e =
-      let u : ℕ = s.answer.words in
-      let m : u + (length xs - u) ≡ length xs = omega arith in
-      let none : drop (length xs - u) (drop u xs) ≡ [] = drop-drop (length xs - u) u xs ∙ ap (λ (k : ℕ). drop k xs) m ∙ drop-length xs in
-      let whole : put_mid u (length xs - u) xs o.buffer ≡ take u xs ++ o.buffer =
-      ap (λ (l : List ℕ). take u xs ++ (o.buffer ++ l)) none ∙ ap (λ (l : List ℕ). take u xs ++ l) (append-nil o.buffer) in
-      rw (e, whole)
-      (ap (joined (record { session = s; image = image; buffer = xs })) (is ∙ ap (pair_call ws start n s.lists image) (part_to_end xs u)))
+pub few : (ws image buffer : List ℕ) (start n lists : ℕ) (o : Outcome) → o ≡ pair_call ws start n lists image buffer → IsFew o.answer
+few ws image buffer start n lists o is =
+    let c = subst (λ (p : Outcome). Counts p buffer) (sym is) (call_counts ws start n lists image buffer) in
+    record { commands = c.commands; records = c.records; words = omega (arith, c.records, c.words) }

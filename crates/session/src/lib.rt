@@ -1,45 +1,38 @@
 // Several lists in one call, over one image and one record buffer (document 02, Ticket 5).
 //
-// Each list is read by the reader's own call; here its answers are added up.
+// Each list is read by the reader's own call; here what its calls return is added up.
 #![tactic(auto)]
 
-ghost use Rattle.std.specs.Prelude.{◌≡◌, cond, ◌/◌, ◌≤◌, ◌<◌, length};
-ghost use Rattle.rules.specs.Session.{in_session, no_lists, added, pair_call, with_pair_of, reading_scenes, Bounded};
+ghost use Rattle.std.specs.Prelude.{◌≡◌, ◌≢◌, ◌≤◌, ◌↔◌, IsTrue, length};
+ghost use Rattle.rules.specs.Session.{in_session, no_lists, added, pair_call, with_pair, reading_scenes, Bounded};
 ghost use Rattle.rules.specs.Answer.{outcome};
+ghost use Rattle.rules.specs.Returned.{answer_of, session_answer_of};
+ghost use Rattle.session.specs.Call.{IsFew};
 
-use rules::{Answer, NO_BIT, Refusal, SessionAnswer};
+use rules::{Accepted, Reason, Refusal, Session};
 
-fn no_lists() -> SessionAnswer
-    ensures { result ≡ no_lists }
+const NO_LISTS: Session = Session {
+    commands: 0,
+    records: 0,
+    words: 0,
+    lists: 0,
+    end: Ok(0),
+};
+
+// One call more. A list that is accepted is applied; of a refusal there is nothing to count.
+fn add(s: Session, call: Result<Accepted, Refusal>) -> Session
+    requires { Bounded (session_answer_of s) × IsFew (answer_of call) }
+    ensures { session_answer_of result ≡ added (session_answer_of s) (answer_of call) }
 {
-    SessionAnswer {
-        answer: list::accepted(0, 0, 0, 0),
-        lists: 0,
-    }
-}
-
-// A list that is accepted is applied.
-fn list_count(accepted: bool) -> usize
-    ensures { result ≡ cond accepted 1 0 }
-{
-    if accepted { 1 } else { 0 }
-}
-
-// One answer more: of a refusal the counts are 0.
-fn add(s: SessionAnswer, a: Answer) -> SessionAnswer
-    requires { Bounded s × (a.commands ≤ 4096) × (a.records ≤ 4096) × (a.words ≤ 16384) }
-    ensures { result ≡ added s a }
-{
-    SessionAnswer {
-        answer: Answer {
-            verdict: a.verdict,
-            bit: a.bit,
-            position: a.position,
-            commands: s.answer.commands + a.commands,
-            records: s.answer.records + a.records,
-            words: s.answer.words + a.words,
+    match call {
+        Ok(a) => Session {
+            commands: s.commands + a.commands,
+            records: s.records + a.records,
+            words: s.words + a.words,
+            lists: s.lists + 1,
+            end: Ok(a.position),
         },
-        lists: s.lists + list_count(a.verdict == 0),
+        Err(f) => Session { end: Err(f), ..s },
     }
 }
 
@@ -51,53 +44,54 @@ fn read_pair(
     lists: usize,
     image: &mut [u32],
     records: &mut [u32],
-) -> Answer
-    ensures { outcome result image.new records.new ≡ pair_call words.now start length lists image.old records.old }
+) -> Result<Accepted, Refusal>
+    ensures { outcome (answer_of result) image.new records.new ≡ pair_call words.now start length lists image.old records.old }
 {
     let first = words::wide(start);
     let end = first + words::wide(length);
     if (4096 <= lists) | (words.len() < end) {
-        return list::refuse(Refusal {
-            number: 20,
+        return Err(Refusal {
+            reason: Reason::OutsideBuffer,
             word: 0,
-            bit: NO_BIT,
         });
     }
     reader::read(&words[first..end], image, records)
 }
 
-// The next pair, in the record room still left.
+// The call for the next pair, in the record room still left.
 fn read_next(
     words: &[u32],
-    table: &[u32],
+    start: u32,
+    size: u32,
     image: &mut [u32],
     records: &mut [u32],
-    s: SessionAnswer,
-) -> SessionAnswer
-    requires { Bounded s × (s.answer.words ≤ length records.old) × (s.lists < length table.now / 2) }
-    ensures { in_session result image.new records.new ≡ with_pair_of words.now table.now s.lists (in_session s image.old records.old) }
+    s: Session,
+) -> Session
+    requires { Bounded (session_answer_of s) × (s.words ≤ length records.old) }
+    ensures { in_session (session_answer_of result) image.new records.new ≡ with_pair words.now start size (in_session (session_answer_of s) image.old records.old) }
 {
-    let at = 2 * s.lists;
-    let used = s.answer.words;
-    let start = words::fetch(table, at);
-    let length = words::fetch(table, at + 1);
-    let a = read_pair(words, start, length, s.lists, image, &mut records[used..]);
-    add(s, a)
+    let used = s.words;
+    let call = read_pair(words, start, size, s.lists, image, &mut records[used..]);
+    add(s, call)
+}
+
+// The last list is refused.
+fn is_refused(s: Session) -> bool
+    ensures { IsTrue result ↔ ((session_answer_of s).answer.verdict ≢ 0) }
+{
+    s.end.is_err()
 }
 
 // The lists of a table's pairs of start and length in turn, until one is refused.
-pub fn read_scenes(
-    words: &[u32],
-    table: &[u32],
-    image: &mut [u32],
-    records: &mut [u32],
-) -> SessionAnswer
-    ensures { in_session result image.new records.new ≡ reading_scenes words.now table.now image.old records.old }
+pub fn read_scenes(words: &[u32], table: &[u32], image: &mut [u32], records: &mut [u32]) -> Session
+    ensures { in_session (session_answer_of result) image.new records.new ≡ reading_scenes words.now table.now image.old records.old }
 {
-    let mut s = no_lists();
-    while s.lists < table.len() / 2 {
-        s = read_next(words, table, image, records, s);
-        if s.answer.verdict != 0 {
+    let mut s = NO_LISTS;
+    let (pairs, _) = table.as_chunks::<2>();
+    for pair in pairs {
+        let [start, size] = *pair;
+        s = read_next(words, start, size, image, records, s);
+        if is_refused(s) {
             return s;
         }
     }

@@ -1,20 +1,21 @@
 -- The settings put out: those of the numbers in `changed` that differ are all that differ.
 use Prim.Native.Nat.{ℕ, zero, suc, ◌+◌, ◌-◌, ◌/◌, ◌%◌, ◌^◌, ◌≤◌, ◌<◌}
 use native.Mathlib.Nat.{add-zero, zero-add}
-use native.Mathlib.Numerals.{add-one, add-two, add-three}
+use native.Mathlib.Numerals.{add-one}
 use native.Mathlib.Omega.{arith}
 use native.Mathlib.Decide.{ℕ_discrete, dec_lt}
 use mathlib.Core.Path.{◌≡◌, refl, ap, ap₂, sym, ◌∙◌, subst}
 use mathlib.Core.Bool.{Bool, true, false, cond, ◌&&◌}
 use mathlib.Core.Logic.{◌⊎◌, inl, inr}
 use mathlib.Core.List.{List, [], ◌∷◌, ◌++◌, append_assoc, append-nil}
+use Rattle.std.proofs.lemmas.List.{map-set}
 use mathlib.Core.Option.{Option, none, some}
 use lib.Bits.{bit_and, and_le_l}
 use lib.Count.{count_trailing_zeros}
 use lib.Dec.{eqb, ltb}
-use lib.ListN.{length, get_or, set, length-append, length-set}
+use lib.ListN.{length, get_or, set, take, drop, length-append, length-set, get_or-map}
 use lib.Pow.{high, low, shr-shr}
-use lib.Seq.{sets, get_or-set_same, get_or-set_other}
+use lib.Seq.{sets, map-set_same, get_or-set_same, get_or-set_other}
 use borrow.Author.Tests.{eqb-true, eqb-false, eq-eqb, ne_eqb, lt-ltb, le-ltb}
 use Rattle.rules.specs.Word.{id_of, header_of, first_word}
 use Rattle.rules.specs.Table.{Row, size, settings}
@@ -26,78 +27,81 @@ use Rattle.rules.specs.Valid.{Valid}
 use Rattle.theory.proofs.Differing.{emit_cong}
 use Rattle.theory.proofs.Form.{words_all_append}
 use Rattle.settings.specs.Numbers.{odd, holds, numbers}
-use Rattle.settings.specs.Output.{longest, Output, is_built, put_one, emit_one, emit_all, emit_changed, CanEmit, CanEmitAll, CanEmitChanged}
+use Rattle.settings.specs.Output.{longest, Output, put, is_built, put_one, emit_one, emit_all, emit_changed, CanEmit, CanEmitAll, CanEmitChanged}
+use Rattle.settings.specs.declared.Places.{Places}
+use Rattle.settings.specs.declared.Memory.{Memory}
+use Rattle.settings.specs.Remembered.{latest_of, sent_of}
+use Rattle.settings.proofs.Slices.{read_take}
 use Rattle.settings.proofs.Numbers.{numbers_none, lowest_off, numbers_low, holds_at, setting_of, row_list, settings_from, settings_by_number, setting_of_lem}
 
 -- ---- what the code does for one setting
 
-pub and_one : (p : Bool) → p ≡ (p && true)
-and_one true = refl
-and_one false = refl
+module _ (more : ℕ) (l image : List ℕ) (m : Memory) (k n : ℕ) (out : List ℕ) (can : CanEmit more l image (latest_of m) k (put n (sent_of m) out)) where
+  abbrev places : Places
+  places = get_or m.places k (record { latest = 0; sent = 0 })
 
-and_four : (p q r s : Bool) → ((p && q) && (r && s)) ≡ (p && (q && (r && (s && true))))
-and_four true true true s = and_one s
-and_four true true false s = refl
-and_four true false r s = refl
-and_four false q r s = refl
+  -- the setting's command
+  abbrev command : List ℕ
+  command = take (places.latest + 1 + more - places.latest) (drop places.latest l)
 
-pub same_four : (s : List ℕ) (at w b c d : ℕ)
-    → ((eqb (get_or s at 0) w && eqb (get_or s (at + 1) 0) b) && (eqb (get_or s (at + 2) 0) c && eqb (get_or s (at + 3) 0) d))
-    ≡ equal (read s at 4) (w ∷ b ∷ c ∷ d ∷ [])
-same_four s at w b c d =
-    rw (add-one, add-two, add-three)
-    (and_four (eqb (get_or s at 0) w) (eqb (get_or s (suc at) 0) b) (eqb (get_or s (suc (suc at)) 0) c) (eqb (get_or s (suc (suc (suc at))) 0) d))
+  abbrev is : Bool
+  is = is_built (length command - 1) l image (get_or command 0 0) (drop 1 command) places.sent
 
-pub read_four : (l : List ℕ) (at w b c d : ℕ) → w ≡ get_or l at 0 → b ≡ get_or l (at + 1) 0 → c ≡ get_or l (at + 2) 0 → d ≡ get_or l (at + 3) 0
-    → w ∷ b ∷ c ∷ d ∷ [] ≡ read l at 4
-read_four l at w b c d ew eb ec ed = rw (ew, eb, ec, ed, add-one, add-two, add-three)
+  latest-at : get_or (latest_of m) k 0 ≡ places.latest
+  latest-at = get_or-map (λ (p : Places). p.latest) m.places k (record { latest = 0; sent = 0 })
 
-module _ (more : ℕ) (l image latest : List ℕ) (k : ℕ) (o : Output) (w : ℕ) (rest : List ℕ) (e : w ∷ rest ≡ read l (get_or latest k 0) (suc more)) where
-  chosen_is : (b : Bool) → is_built more l image w rest (get_or o.sent k 0) ≡ b → cond {A = Output} b o (put_one more l latest k o) ≡ emit_one more l image latest k o
+  sent-at : get_or (sent_of m) k 0 ≡ places.sent
+  sent-at = get_or-map (λ (p : Places). p.sent) m.places k (record { latest = 0; sent = 0 })
+
+  pub command_is : command ≡ read l places.latest (suc more)
+  command_is =
+      let n : places.latest + 1 + more - places.latest ≡ suc more = omega arith in
+      rw n (read_take l places.latest (suc more) (omega (arith, latest-at)))
+
+  built_is : is ≡ is_built more l image (get_or l places.latest 0) (read l (suc places.latest) more) places.sent
+  built_is =
+      let n : length command - 1 ≡ more = omega (arith, ap length command_is, length-read l places.latest (suc more)) in
+      rw (n, command_is)
+
+  pub emit-kept : is ≡ true → put n (sent_of m) out ≡ emit_one more l image (latest_of m) k (put n (sent_of m) out)
   unfolding emit_one
-  chosen_is b f =
-      let first : get_or l (get_or latest k 0) 0 ≡ w = cc in
-      let others : read l (suc (get_or latest k 0)) more ≡ rest = cc in
-      rw (first, others, f)
+  emit-kept f = rw (latest-at, sent-at, ← built_is, f)
 
-  pub emit-kept : is_built more l image w rest (get_or o.sent k 0) ≡ true → o ≡ emit_one more l image latest k o
-  emit-kept f = chosen_is true f
+  pub emit-put : is ≡ false → (out' : List ℕ) → out' ≡ sets out n command
+      → put (n + 1 + more) (sent_of (record m { places = set m.places k (record { latest = places.latest; sent = places.latest + 1 }) })) out'
+      ≡ emit_one more l image (latest_of m) k (put n (sent_of m) out)
+  unfolding emit_one
+  emit-put f out' eo =
+      let s : n + 1 + more ≡ n + suc more = omega arith in
+      rw (latest-at, sent-at, ← built_is, f, eo, command_is, s, map-set)
 
-  pub emit-put : is_built more l image w rest (get_or o.sent k 0) ≡ false → (out : List ℕ) → out ≡ sets o.out o.written (w ∷ rest)
-      → record { written = o.written + suc more; sent = set o.sent k (get_or latest k 0 + 1); out = out } ≡ emit_one more l image latest k o
-  emit-put f out eo =
-      ap {B = Output} (λ x. record { written = o.written + suc more; sent = set o.sent k (get_or latest k 0 + 1); out = x }) (eo ∙ ap (sets o.out o.written) e)
-      ∙ chosen_is false f
+  pub latest-kept : latest_of (record m { places = set m.places k (record { latest = places.latest; sent = places.latest + 1 }) }) ≡ latest_of m
+  latest-kept = map-set_same (λ (p : Places). p.latest) m.places k _ (record { latest = 0; sent = 0 }) refl
 
 -- the loop over the numbers of a set
 pub record ToEmit (more first : ℕ) (l image latest : List ℕ) (left₀ : ℕ) (o₀ : Output) (left : ℕ) (o : Output) : Type 0 where
   pub small : left < 2 ^ 64
   pub can : CanEmitAll more l image latest (numbers 64 first left) o
   pub result : emit_all more l image latest (numbers 64 first left) o ≡ emit_all more l image latest (numbers 64 first left₀) o₀
-  pub long : length o.out ≡ length o₀.out
 
 module _ {more first : ℕ} {l image latest : List ℕ} {left₀ : ℕ} {o₀ : Output} {left : ℕ} {o : Output} (t : ToEmit more first l image latest left₀ o₀ left o) where
   pub to_emit_end : left ≡ 0 → o ≡ emit_all more l image latest (numbers 64 first left₀) o₀
   to_emit_end e = rw (e, numbers_none 64 first) at t.result
 
-  module _ (ne : left ≡ 0 → ⊥) (k : ℕ) (ek : k ≡ first + count_trailing_zeros 64 left) where
-    front : numbers 64 first left ≡ k ∷ numbers 64 first (bit_and left (left - 1))
-    front = lowest_off 64 first left t.small ne ∙ ap (λ (j : ℕ). j ∷ numbers 64 first (bit_and left (left - 1))) (sym ek)
-
-    pub to_emit_now : CanEmit more l image latest k o
-    to_emit_now = (rw front at t.can).0
+  module _ (ne : left ≡ 0 → ⊥) where
+    pub to_emit_now : CanEmit more l image latest (first + count_trailing_zeros 64 left) o
+    to_emit_now = (rw (lowest_off 64 first left t.small ne) at t.can).0
 
     pub to_emit_less : length (numbers 64 first (bit_and left (left - 1))) < length (numbers 64 first left)
-    to_emit_less = omega (arith, ap length front)
+    to_emit_less = omega (arith, ap length (lowest_off 64 first left t.small ne))
 
-    pub to_emit_on : (o' : Output) → o' ≡ emit_one more l image latest k o → length o'.out ≡ length o.out
+    pub to_emit_on : (o' : Output) → o' ≡ emit_one more l image latest (first + count_trailing_zeros 64 left) o
         → ToEmit more first l image latest left₀ o₀ (bit_and left (left - 1)) o'
-    to_emit_on o' e n =
+    to_emit_on o' e =
         rw e (record {
           small = omega (arith, and_le_l left (left - 1), t.small);
-          can = (rw front at t.can).1;
-          result = rw front at t.result;
-          long = ap (λ (x : Output). length x.out) (sym e) ∙ n ∙ t.long;
+          can = (rw (lowest_off 64 first left t.small ne) at t.can).1;
+          result = rw (lowest_off 64 first left t.small ne) at t.result;
         })
 
 pub emit_both : (changed : ℕ) (l image latest : List ℕ) (o o₁ o₂ : Output) → o₁ ≡ emit_all 0 l image latest (numbers 64 0 (changed % 65536)) o
@@ -111,11 +115,6 @@ unfolding emit_changed
 emit_none changed l image latest o e = rw (e, numbers_none 64 0, numbers_none 64 16)
 
 -- ---- one setting
-
--- before any command that put it out, the form has a setting of one word as the starting image has it
-pub built_at_start : (l image : List ℕ) (w before : ℕ) → before ≡ 0 → is_built 0 l image w [] before ≡ eqb (get_or image (id_of w) 0) (header_of w)
-unfolding is_built
-built_at_start l image w before e = rw (e, ← and_one (eqb (get_or image (id_of w) 0) (header_of w)))
 
 -- the command at a position of the list sets a setting to what an image has
 pub record SetAt (l : List ℕ) (at : ℕ) (r : Row) (im : List ℕ) : Type 0 where
@@ -199,16 +198,16 @@ differing_append (r ∷ rs) qs a b =
     ]
 
 module _ (l image₀ built image start latest : List ℕ) (changed : ℕ) where
-  abbrev put : List Row → List ℕ
-  put rs = words_all (differing rs built image)
+  abbrev put_out : List Row → List ℕ
+  put_out rs = words_all (differing rs built image)
 
-  -- the settings below a number are put out
+  -- the settings below a number are put_out out
   abbrev At : ℕ → List ℕ → Output → Type 0
   At below so_far o = Progress l image₀ start (λ k. cond (ltb k below) image built) so_far o
 
-  put_append : (so_far : List ℕ) (rs qs : List Row) → (so_far ++ put rs) ++ put qs ≡ so_far ++ put (rs ++ qs)
+  put_append : (so_far : List ℕ) (rs qs : List Row) → (so_far ++ put_out rs) ++ put_out qs ≡ so_far ++ put_out (rs ++ qs)
   put_append so_far rs qs =
-      append_assoc so_far (put rs) (put qs)
+      append_assoc so_far (put_out rs) (put_out qs)
       ∙ ap (λ (x : List ℕ). so_far ++ x) (sym (ap words_all (differing_append rs qs built image) ∙ words_all_append (differing rs built image) (differing qs built image)))
 
   chosen_sent : (b b' : Bool) (r : Row) (before : ℕ) → b ≡ b' → Sent l image₀ (cond b' image built) r before → Sent l image₀ (cond b image built) r before
@@ -233,9 +232,9 @@ module _ (l image₀ built image start latest : List ℕ) (changed : ℕ) where
     here : (r : Row) → setting_of k ≡ some r → Sent l image₀ built r (get_or o.sent k 0)
     here r e = chosen_sent false (ltb k k) r (get_or o.sent k 0) (sym (le-ltb k k (omega arith))) (p.sent_is k r e)
 
-    -- nothing put out
+    -- nothing put_out out
     kept : (rs : List Row) → differing rs built image ≡ [] → ((r : Row) → setting_of k ≡ some r → read built r.id (size r) ≡ read image r.id (size r))
-        → At (suc k) (so_far ++ put rs) o
+        → At (suc k) (so_far ++ put_out rs) o
     kept rs none-put eq =
         rw (none-put, append-nil) (record {
           long = p.long;
@@ -268,7 +267,7 @@ module _ (l image₀ built image start latest : List ℕ) (changed : ℕ) where
                 (only (λ q. Sent l image₀ image q (get_or (set o.sent k (at + 1)) k 0)) (inr (at, new, s))) p.sent_is;
           })
 
-      put_one_lem : SetAt l (get_or latest k 0) r image → At (suc k) (so_far ++ put (r ∷ [])) (emit_one (length r.more) l image₀ latest k o)
+      put_one_lem : SetAt l (get_or latest k 0) r image → At (suc k) (so_far ++ put_out (r ∷ [])) (emit_one (length r.more) l image₀ latest k o)
       unfolding emit_one
       put_one_lem s = rw (is_built_lem l image₀ built image r (get_or latest k 0) (get_or o.sent k 0) s (here r e)) (chosen s (same r built image) refl)
 
@@ -279,7 +278,7 @@ module _ (l image₀ built image start latest : List ℕ) (changed : ℕ) where
     -- a number that is not in the set is a setting that is the same, or no setting
     one : length l ≤ longest → length image₀ ≡ 256 → o.written ≤ longest → (more : ℕ) → ((r : Row) → setting_of k ≡ some r → length r.more ≡ more)
         → (q : Option Row) → setting_of k ≡ q → (b : Bool) → LatestAt l built image q b (get_or latest k 0)
-        → At (suc k) (so_far ++ put (row_list q)) (emit_all more l image₀ latest (cond b (k ∷ []) []) o) × CanEmitAll more l image₀ latest (cond b (k ∷ []) []) o
+        → At (suc k) (so_far ++ put_out (row_list q)) (emit_all more l image₀ latest (cond b (k ∷ []) []) o) × CanEmitAll more l image₀ latest (cond b (k ∷ []) []) o
     one few whole enough more fit none e true h = let z : ◌≡◌ {A = ℕ} 0 1 = cc in absurd (omega arith)
     one few whole enough more fit none e false h = (kept [] refl (λ r f. let z : none ≡ some r = sym e ∙ f in let y : ◌≡◌ {A = ℕ} 0 1 = cc in absurd (omega arith)), tt)
     one few whole enough more fit (some r) e false h = (kept (r ∷ []) (rw (same_read r built image h)) (only r e (SameRead r e) h), tt)
@@ -287,7 +286,7 @@ module _ (l image₀ built image start latest : List ℕ) (changed : ℕ) where
         let n = setting_of_lem k r e in
         let m = fit r e in
         let i = set-id l image₀ built image r (get_or latest k 0) 0 h in (
-          subst (λ (j : ℕ). At (suc k) (so_far ++ put (r ∷ [])) (emit_one j l image₀ latest k o)) m (put_one_lem r e h),
+          subst (λ (j : ℕ). At (suc k) (so_far ++ put_out (r ∷ [])) (emit_one j l image₀ latest k o)) m (put_one_lem r e h),
           (
             record {
               few = few;
@@ -303,14 +302,14 @@ module _ (l image₀ built image start latest : List ℕ) (changed : ℕ) where
 
   module _ (few : length l ≤ longest) (whole : length image₀ ≡ 256) (is : Latest l built image changed latest) (more : ℕ) where
     abbrev Runs : ℕ → ℕ → List ℕ → Output → List ℕ → Type 0
-    Runs n k so_far o ks = At (k + n) (so_far ++ put (settings_from n k)) (emit_all more l image₀ latest ks o) × CanEmitAll more l image₀ latest ks o
+    Runs n k so_far o ks = At (k + n) (so_far ++ put_out (settings_from n k)) (emit_all more l image₀ latest ks o) × CanEmitAll more l image₀ latest ks o
 
-    module _ (n k : ℕ) (so_far : List ℕ) (o : Output) (p : At k so_far o) (enough : length (so_far ++ put (settings_from (suc n) k)) ≤ longest)
+    module _ (n k : ℕ) (so_far : List ℕ) (o : Output) (p : At k so_far o) (enough : length (so_far ++ put_out (settings_from (suc n) k)) ≤ longest)
         (fit : (r : Row) → setting_of k ≡ some r → length r.more ≡ more) where
       abbrev now : List ℕ
-      now = so_far ++ put (row_list (setting_of k))
+      now = so_far ++ put_out (row_list (setting_of k))
 
-      whole-put : now ++ put (settings_from n (suc k)) ≡ so_far ++ put (settings_from (suc n) k)
+      whole-put : now ++ put_out (settings_from n (suc k)) ≡ so_far ++ put_out (settings_from (suc n) k)
       whole-put = put_append so_far (row_list (setting_of k)) (settings_from n (suc k))
 
       next : suc k + n ≡ k + suc n
@@ -318,7 +317,7 @@ module _ (l image₀ built image start latest : List ℕ) (changed : ℕ) where
 
       run-one : (ks : List ℕ) → ((o' : Output) → At (suc k) now o' → Runs n (suc k) now o' ks)
           → (b : Bool) → holds changed k ≡ b → Runs (suc n) k so_far o (cond b (k ∷ ks) ks)
-      run-one ks ih b h = by_bit b (one k so_far o p few whole (omega (arith, p.written_is, length-append so_far (put (settings_from (suc n) k)))) more fit (setting_of k) refl b (rw h at (is k)))
+      run-one ks ih b h = by_bit b (one k so_far o p few whole (omega (arith, p.written_is, length-append so_far (put_out (settings_from (suc n) k)))) more fit (setting_of k) refl b (rw h at (is k)))
         where
           by_bit : (b : Bool) → At (suc k) now (emit_all more l image₀ latest (cond b (k ∷ []) []) o) × CanEmitAll more l image₀ latest (cond b (k ∷ []) []) o
               → Runs (suc n) k so_far o (cond b (k ∷ ks) ks)
@@ -326,7 +325,7 @@ module _ (l image₀ built image start latest : List ℕ) (changed : ℕ) where
           by_bit false q = let r = ih o q.0 in (rw (whole-put, next) at r.0, r.1)
 
     run : (n k : ℕ) (so_far : List ℕ) (o : Output) → ((j : ℕ) (r : Row) → k ≤ j → j < k + n → setting_of j ≡ some r → length r.more ≡ more)
-        → At k so_far o → length (so_far ++ put (settings_from n k)) ≤ longest → Runs n k so_far o (numbers n k (changed / 2 ^ k))
+        → At k so_far o → length (so_far ++ put_out (settings_from n k)) ≤ longest → Runs n k so_far o (numbers n k (changed / 2 ^ k))
     unfolding numbers
     run zero k so_far o fit p enough = (rw (add-zero, append-nil) p, tt)
     run (suc n) k so_far o fit p enough =
@@ -337,18 +336,18 @@ module _ (l image₀ built image start latest : List ℕ) (changed : ℕ) where
         (odd (changed / 2 ^ k)) (holds_at changed k))
 
   pub emit-all : length l ≤ longest → length image₀ ≡ 256 → Latest l built image changed latest → (so_far : List ℕ) (o : Output)
-      → Progress l image₀ start (λ k. built) so_far o → length (so_far ++ put settings) ≤ longest
-      → Progress l image₀ start (λ k. image) (so_far ++ put settings) (emit_changed changed l image₀ latest o) × CanEmitChanged changed l image₀ latest o
+      → Progress l image₀ start (λ k. built) so_far o → length (so_far ++ put_out settings) ≤ longest
+      → Progress l image₀ start (λ k. image) (so_far ++ put_out settings) (emit_changed changed l image₀ latest o) × CanEmitChanged changed l image₀ latest o
   unfolding emit_changed
   emit-all few whole is so_far o p enough =
-      let e : (so_far ++ put (settings_from 16 0)) ++ put (settings_from 64 16) ≡ so_far ++ put settings =
-      put_append so_far (settings_from 16 0) (settings_from 64 16) ∙ ap (λ (x : List Row). so_far ++ put x) (sym settings_by_number) in
+      let e : (so_far ++ put_out (settings_from 16 0)) ++ put_out (settings_from 64 16) ≡ so_far ++ put_out settings =
+      put_append so_far (settings_from 16 0) (settings_from 64 16) ∙ ap (λ (x : List Row). so_far ++ put_out x) (sym settings_by_number) in
       let x : numbers 16 0 (changed / 1) ≡ numbers 64 0 (changed % 65536) =
       let z : changed / 1 ≡ changed = omega arith in ap (numbers 16 0) z ∙ sym (numbers_low 48 16 0 changed) in
       let p₀ : At 0 so_far o = record { long = p.long; written_is = p.written_is; out-is = p.out-is; sent_is = λ k r f. chosen_sent (ltb k 0) false r (get_or o.sent k 0) (le-ltb k 0 (omega arith)) (p.sent_is k r f) } in
       let a = run few whole is 0 16 0 so_far o (λ j r b c f. (setting_of_lem j r f).more ∙ rw (lt-ltb j 16 (omega arith))) p₀
-      (omega (arith, ap length e, length-append (so_far ++ put (settings_from 16 0)) (put (settings_from 64 16)))) in
-      let b = run few whole is 3 64 16 (so_far ++ put (settings_from 16 0)) (emit_all 0 l image₀ latest (numbers 16 0 (changed / 1)) o)
+      (omega (arith, ap length e, length-append (so_far ++ put_out (settings_from 16 0)) (put_out (settings_from 64 16)))) in
+      let b = run few whole is 3 64 16 (so_far ++ put_out (settings_from 16 0)) (emit_all 0 l image₀ latest (numbers 16 0 (changed / 1)) o)
       (λ j r b c f. (setting_of_lem j r f).more ∙ rw (le-ltb j 16 (omega arith))) a.0 (rw e enough) in
       let q = rw (x, e) at b.0 in (
         record { long = q.long; written_is = q.written_is; out-is = q.out-is; sent_is = λ k r f. chosen_sent true (ltb k 80) r (get_or (emit_changed changed l image₀ latest o).sent k 0) (sym (lt-ltb k 80 (omega (arith, (setting_of_lem k r f).small)))) (q.sent_is k r f) },

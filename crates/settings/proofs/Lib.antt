@@ -1,2 +1,3 @@
-pub mod Numbers
 pub mod Emitting
+pub mod Numbers
+pub mod Slices

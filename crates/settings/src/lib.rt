@@ -1,198 +1,180 @@
 // The settings that a normal form puts out: of those set since the last work command, the ones that differ from what the
 // form has built.
 //
-// A setting's words still stand in the list, so positions say where they are: where each setting was last set (`latest`),
-// and where the command stands that the form last put out for it (`sent`: 0 never, else the position + 1). `changed` has a
-// bit for each setting set; rising bits are rising ids. A word past the end of a buffer is not written.
+// A setting's words still stand in the list, so positions say where they are. A word past the end of a buffer is not written.
 #![tactic(auto)]
 
-ghost use Rattle.std.specs.Prelude.{◌≡◌, [], ◌∷◌, ◌+◌, ◌<◌, ◌≤◌, length};
+ghost use Rattle.std.specs.Prelude.{◌≡◌, ◌+◌, ◌-◌, ◌<◌, ◌≤◌, length, get_or, drop, replicate};
 ghost use Rattle.std.proofs.lemmas.List.Edits.{sets};
 ghost use Rattle.rules.specs.Word.{id_of};
-ghost use Rattle.rules.specs.Form.{read, equal};
-ghost use Rattle.settings.specs.Output.{singles_in, groups_in, put, longest, is_built, emit_one, emit_all, emit_changed, CanEmit, CanEmitAll, CanEmitChanged};
+ghost use Rattle.rules.specs.Form.{equal};
+ghost use Rattle.settings.specs.Numbers.{numbers};
+ghost use Rattle.settings.specs.Output.{put, longest, is_built, emit_one, emit_all, emit_changed, CanEmit, CanEmitAll, CanEmitChanged};
+ghost use Rattle.settings.specs.Remembered.{latest_of, sent_of};
 
-fn put_group(out: &mut [u32], n: usize, a: u32, b: u32, c: u32, d: u32)
-    requires { n ≤ longest }
-    ensures { out.new ≡ sets out.old n (a ∷ b ∷ c ∷ d ∷ []) }
+// Where the commands of a setting stand in the list: the latest, and the one that the form put out last (0: none yet, else
+// its position + 1). Stays: tried, with an `Option<u16>` normalising took 1.03 to 1.05 of the time.
+#[derive(Clone, Copy)]
+pub struct Places {
+    pub latest: u16,
+    pub sent: u16,
+}
+
+// What a form remembers of the settings, by their numbers.
+#[derive(Drop)]
+pub struct Memory {
+    pub places: [Places; 64],
+}
+
+// Words that have room from a position on. Stays: tried, with `copy_from_slice` normalising took 1.04 to 1.09 of the time.
+#[tactic(auto, using(crate::proofs::Slices::put_more))]
+fn copy(words: &[u32], out: &mut [u32], n: usize)
+    requires { n + length words.now ≤ length out.old }
+    ensures { out.new ≡ sets out.old n words.now }
 {
-    if n + 4 <= out.len() {
-        words::put4(out, n, a, b, c, d);
-        return;
+    for (i, word) in words.iter().enumerate() {
+        out[n + i] = *word;
     }
-    words::put(out, n, a);
-    words::put(out, n + 1, b);
-    words::put(out, n + 2, c);
-    words::put(out, n + 3, d);
 }
 
-fn same_group(w: u32, b: u32, c: u32, d: u32, s: &[u32], at: usize) -> bool
-    requires { at + 4 ≤ length s.now }
-    ensures { result ≡ equal (read s.now at 4) (w ∷ b ∷ c ∷ d ∷ []) }
+// Words from a position on, as far as the buffer goes.
+#[tactic(auto, using(crate::proofs::Slices::put_part, crate::proofs::Slices::put_none))]
+pub fn put_words(words: &[u32], out: &mut [u32], n: usize)
+    requires { (n ≤ longest) × (length words.now ≤ longest) }
+    ensures { out.new ≡ sets out.old n words.now }
 {
-    ((s[at] == w) & (s[at + 1] == b)) & ((s[at + 2] == c) & (s[at + 3] == d))
+    if n + words.len() <= out.len() {
+        copy(words, out, n);
+    } else if n < out.len() {
+        copy(&words[..out.len() - n], out, n);
+    }
 }
 
-// The form has built the setting with this word: its command last put out has it, or, before any, the starting image.
-#[tactic(auto, using(crate::proofs::Emitting::built_at_start))]
-fn single_is_built(list: &[u32], image: &[u32], w: u32, before: usize) -> bool
-    requires { (id_of w < length image.now) × (before ≤ length list.now) }
-    ensures { result ≡ is_built 0 list.now image.now w [] before }
+// Two slices of one length have the same words. Stays: tried, with `==`, which is a call here, normalising took 1.08 to 1.18 of
+// the time.
+#[tactic(auto, using(crate::proofs::Slices::equal_more))]
+fn same_words(a: &[u32], b: &[u32]) -> bool
+    requires { length a.now ≡ length b.now }
+    ensures { result ≡ equal a.now b.now }
+{
+    let mut same = true;
+    for (i, word) in a.iter().enumerate() {
+        same &= *word == b[i];
+    }
+    same
+}
+
+// The form has built the setting of a command: the command that it put out last has the same words, or, before any, the
+// starting image has them.
+#[tactic(auto, using(crate::proofs::Slices::built_at_start, crate::proofs::Slices::built_last))]
+fn is_built(command: &[u32], list: &[u32], image: &[u32], before: usize) -> bool
+    requires { (0 < length command.now) × (id_of (get_or command.now 0 0) + length command.now ≤ length image.now) × (before + length command.now ≤ length list.now + 1) }
+    ensures { result ≡ is_built (length command.now - 1) list.now image.now (get_or command.now 0 0) (drop 1 command.now) before }
 {
     if before == 0 { // not put out yet
-        return image[words::id_of(w) as usize] == words::header_of(w);
+        let id = words::id_of(command[0]) as usize;
+        return (image[id] == words::header_of(command[0]))
+            & same_words(&image[id + 1..id + command.len()], &command[1..]);
     }
-    words::fetch(list, before - 1) == w
+    same_words(&list[before - 1..before - 1 + command.len()], command)
 }
 
-// The same of four words.
-fn group_is_built(
-    list: &[u32],
-    image: &[u32],
-    w: u32,
-    b: u32,
-    c: u32,
-    d: u32,
-    before: usize,
-) -> bool
-    requires { (id_of w + 4 ≤ length image.now) × (before + 3 ≤ length list.now) }
-    ensures { result ≡ is_built 3 list.now image.now w (b ∷ c ∷ d ∷ []) before }
-{
-    if before == 0 {
-        let id = words::id_of(w) as usize;
-        return same_group(words::header_of(w), b, c, d, image, id);
+// List, image, buffer and place stay parameters: a struct of them is no plainer, since callers use the four apart before and
+// after.
+impl Memory {
+    // Nothing set, and nothing put out.
+    pub fn new() -> Self
+        ensures { (latest_of result ≡ replicate 64 0) × (sent_of result ≡ replicate 64 0) }
+    {
+        Memory {
+            places: [Places { latest: 0, sent: 0 }; 64],
+        }
     }
-    same_group(w, b, c, d, list, before - 1)
-}
 
-// The setting of one word with a number, where it differs from what the form has built.
-fn emit_single(
-    list: &[u32],
-    image: &[u32],
-    latest: &[u16; 64],
-    sent: &mut [u16; 64],
-    out: &mut [u32],
-    n: usize,
-    i: u32,
-) -> usize
-    requires { CanEmit 0 list.now image.now latest.now i (put n sent.old out.old) }
-    ensures { put result sent.new out.new ≡ emit_one 0 list.now image.now latest.now i (put n sent.old out.old) }
-{
-    let k = i as usize;
-    let at = latest[k] as usize;
-    let w = words::fetch(list, at);
-    if single_is_built(list, image, w, sent[k] as usize) {
-        return n;
+    // The setting with a number, of one word and some more, where it differs from what the form has built.
+    fn emit_one<const MORE: usize>(
+        &mut self,
+        list: &[u32],
+        image: &[u32],
+        out: &mut [u32],
+        n: usize,
+        number: u32,
+    ) -> usize
+        requires { CanEmit MORE list.now image.now (latest_of self.old) number (put n (sent_of self.old) out.old) }
+        ensures value { put result (sent_of self.new) out.new ≡ emit_one MORE list.now image.now (latest_of self.old) number (put n (sent_of self.old) out.old) }
+        ensures kept { latest_of self.new ≡ latest_of self.old }
+    {
+        let k = number as usize;
+        let at = self.places[k].latest as usize;
+        let command = &list[at..at + 1 + MORE];
+        if is_built(command, list, image, self.places[k].sent as usize) {
+            return n;
+        }
+        self.places[k].sent = (at + 1) as u16;
+        put_words(command, out, n);
+        n + 1 + MORE
     }
-    sent[k] = (at + 1) as u16;
-    words::put(out, n, w);
-    n + 1
-}
 
-// The same of four words.
-fn emit_group(
-    list: &[u32],
-    image: &[u32],
-    latest: &[u16; 64],
-    sent: &mut [u16; 64],
-    out: &mut [u32],
-    n: usize,
-    i: u32,
-) -> usize
-    requires { CanEmit 3 list.now image.now latest.now i (put n sent.old out.old) }
-    ensures { put result sent.new out.new ≡ emit_one 3 list.now image.now latest.now i (put n sent.old out.old) }
-{
-    let k = i as usize;
-    let at = latest[k] as usize;
-    let w = words::fetch(list, at);
-    let b = words::fetch(list, at + 1);
-    let c = words::fetch(list, at + 2);
-    let d = words::fetch(list, at + 3);
-    if group_is_built(list, image, w, b, c, d, sent[k] as usize) {
-        return n;
+    // The settings of a set, in rising id. Its lowest bit stands for the number `FIRST`.
+    fn emit_all<const MORE: usize, const FIRST: u32>(
+        &mut self,
+        list: &[u32],
+        image: &[u32],
+        out: &mut [u32],
+        n: usize,
+        set: u64,
+    ) -> usize
+        requires { CanEmitAll MORE list.now image.now (latest_of self.old) (numbers 64 FIRST set) (put n (sent_of self.old) out.old) }
+        ensures value { put result (sent_of self.new) out.new ≡ emit_all MORE list.now image.now (latest_of self.old) (numbers 64 FIRST set) (put n (sent_of self.old) out.old) }
+        ensures kept { latest_of self.new ≡ latest_of self.old }
+    {
+        let mut m = n;
+        let mut left = set;
+        // stays: an iterator over the numbers is no plainer, since it is a type with this loop's body as its `next`
+        while left != 0 {
+            let lowest = left.trailing_zeros();
+            left = left & (left - 1);
+            m = self.emit_one::<MORE>(list, image, out, m, FIRST + lowest);
+        }
+        m
     }
-    sent[k] = (at + 1) as u16;
-    put_group(out, n, w, b, c, d);
-    n + 4
-}
 
-fn emit_singles(
-    changed: u64,
-    list: &[u32],
-    image: &[u32],
-    latest: &[u16; 64],
-    sent: &mut [u16; 64],
-    out: &mut [u32],
-    n: usize,
-) -> usize
-    requires { CanEmitAll 0 list.now image.now latest.now (singles_in changed) (put n sent.old out.old) }
-    ensures { put result sent.new out.new ≡ emit_all 0 list.now image.now latest.now (singles_in changed) (put n sent.old out.old) }
-{
-    let mut m = n;
-    let mut left = changed % 65536;
-    while left != 0 {
-        let i = u64::trailing_zeros(left);
-        left = left & (left - 1);
-        m = emit_single(list, image, latest, sent, out, m, i);
+    // A command for each setting of a set that differs, in rising id: first those of one word, then those of four. A call, so
+    // that its callers have only the test of `emit_settings`.
+    #[inline(never)]
+    fn emit_changed(
+        &mut self,
+        changed: u64,
+        list: &[u32],
+        image: &[u32],
+        out: &mut [u32],
+        n: usize,
+    ) -> usize
+        requires { CanEmitChanged changed list.now image.now (latest_of self.old) (put n (sent_of self.old) out.old) }
+        ensures value { put result (sent_of self.new) out.new ≡ emit_changed changed list.now image.now (latest_of self.old) (put n (sent_of self.old) out.old) }
+        ensures kept { latest_of self.new ≡ latest_of self.old }
+    {
+        let m = self.emit_all::<0, 0>(list, image, out, n, changed % 65536);
+        self.emit_all::<3, 16>(list, image, out, m, changed >> 16)
     }
-    m
-}
 
-fn emit_groups(
-    changed: u64,
-    list: &[u32],
-    image: &[u32],
-    latest: &[u16; 64],
-    sent: &mut [u16; 64],
-    out: &mut [u32],
-    n: usize,
-) -> usize
-    requires { CanEmitAll 3 list.now image.now latest.now (groups_in changed) (put n sent.old out.old) }
-    ensures { put result sent.new out.new ≡ emit_all 3 list.now image.now latest.now (groups_in changed) (put n sent.old out.old) }
-{
-    let mut m = n;
-    let mut left = changed >> 16;
-    while left != 0 {
-        let i = u64::trailing_zeros(left);
-        left = left & (left - 1);
-        m = emit_group(list, image, latest, sent, out, m, i + 16);
+    // The same, called only where something changed: many work commands follow each other with no setting in between.
+    #[tactic(auto, using(crate::proofs::Emitting::emit_none))]
+    pub fn emit_settings(
+        &mut self,
+        changed: u64,
+        list: &[u32],
+        image: &[u32],
+        out: &mut [u32],
+        n: usize,
+    ) -> usize
+        requires { CanEmitChanged changed list.now image.now (latest_of self.old) (put n (sent_of self.old) out.old) }
+        ensures value { put result (sent_of self.new) out.new ≡ emit_changed changed list.now image.now (latest_of self.old) (put n (sent_of self.old) out.old) }
+        ensures kept { latest_of self.new ≡ latest_of self.old }
+    {
+        if changed == 0 {
+            return n;
+        }
+        self.emit_changed(changed, list, image, out, n)
     }
-    m
-}
-
-// A command for each setting of a set that differs, in rising id.
-fn emit_changed(
-    changed: u64,
-    list: &[u32],
-    image: &[u32],
-    latest: &[u16; 64],
-    sent: &mut [u16; 64],
-    out: &mut [u32],
-    n: usize,
-) -> usize
-    requires { CanEmitChanged changed list.now image.now latest.now (put n sent.old out.old) }
-    ensures { put result sent.new out.new ≡ emit_changed changed list.now image.now latest.now (put n sent.old out.old) }
-{
-    let m = emit_singles(changed, list, image, latest, sent, out, n);
-    emit_groups(changed, list, image, latest, sent, out, m)
-}
-
-// The same, called only where something changed: many work commands follow each other with no setting in between.
-#[tactic(auto, using(crate::proofs::Emitting::emit_none))]
-pub fn emit_settings(
-    changed: u64,
-    list: &[u32],
-    image: &[u32],
-    latest: &[u16; 64],
-    sent: &mut [u16; 64],
-    out: &mut [u32],
-    n: usize,
-) -> usize
-    requires { CanEmitChanged changed list.now image.now latest.now (put n sent.old out.old) }
-    ensures { put result sent.new out.new ≡ emit_changed changed list.now image.now latest.now (put n sent.old out.old) }
-{
-    if changed == 0 {
-        return n;
-    }
-    emit_changed(changed, list, image, latest, sent, out, n)
 }

@@ -1,6 +1,6 @@
 -- What a list sets and draws, as text.
 use Rattle.std.specs.Prelude.{ℕ, cond, List, [], ◌∷◌, ◌++◌, eqb, replicate}
-use Rattle.rules.specs.declared.Answer.{Answer}
+use Rattle.rules.specs.Verdict.{Answer}
 use Rattle.rules.specs.Table.{Row, size, settings}
 use Rattle.rules.specs.Form.{read, equal}
 use Rattle.rules.specs.Answer.{Outcome, reading, measuring, written}

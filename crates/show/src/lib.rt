@@ -1,175 +1,117 @@
-// What a list sets and draws, as text in a lent buffer. Each part goes from position `at` on, and the answer is the
-// position behind it.
+// What a list sets and draws, as text.
 #![tactic(auto)]
 
-ghost use Rattle.std.specs.Prelude.{◌≡◌, ◌+◌, ◌-◌, ◌≤◌, length, get_or};
-ghost use Rattle.rules.specs.Form.{read, equal};
+ghost use Rattle.std.specs.Prelude.{◌≡◌, ◌+◌, ◌≤◌, Ok};
 ghost use Rattle.rules.specs.Answer.{outcome, reading};
-ghost use Rattle.text.specs.Puts.{Puts, Bounded};
-ghost use Rattle.names.specs.Names.{commands};
-ghost use Rattle.show.specs.Show.{words_text, setting_line, change_line, sets_text, draws_text, accepted_text, show_text};
-ghost use Rattle.show.specs.Changes.{id_line, lines_from};
+ghost use Rattle.rules.specs.Returned.{answer_of};
+ghost use Rattle.text.specs.Puts.{Puts};
+ghost use Rattle.text.specs.Wrote.{Wrote};
+ghost use Rattle.show.specs.Show.{words_text, change_line, sets_text, draws_text, accepted_text, show_text};
+ghost use Rattle.show.specs.Changes.{id_line};
 
-use rules::Answer;
+use rules::{Accepted, Refusal};
 use table::Settings;
+use text::Writer;
 
 // ---- settings
 
-// A word of an image; 0 past its end.
-fn word_at(image: &[u32], i: usize) -> usize
-    ensures { result ≡ get_or image.now i 0 }
+// Words, each behind a space.
+fn put_words(writer: &mut Writer<'_>, words: &[u32])
+    ensures { Wrote (words_text words.now) writer.old writer.new }
 {
-    if i < image.len() {
-        return words::wide(image[i]);
+    for word in words {
+        format::put_format(writer, b"", b" %8", &[*word as usize]);
     }
-    0
 }
 
-// Whether n words from word i on are the same in two images.
-fn same(before: &[u32], after: &[u32], i: usize, n: usize) -> bool
-    requires { i + n ≤ 65536 }
-    ensures { result ≡ equal (read before.now i n) (read after.now i n) }
-{
-    if n == 0 {
-        return true;
-    }
-    if word_at(before, i) != word_at(after, i) {
-        return false;
-    }
-    same(before, after, i + 1, n - 1)
-}
-
-// n words from word i on.
-fn put_words(text: &mut [u8], at: usize, image: &[u32], i: usize, n: usize) -> usize
-    requires { (i + n ≤ 65536) × Bounded at (words_text (read image.now i n)) }
-    ensures { Puts (words_text (read image.now i n)) text.old at text.new result }
-{
-    if n == 0 {
-        return at;
-    }
-    let word = word_at(image, i);
-    let next = format::put_format(text, at, b"", b" %8", &[word]);
-    put_words(text, next, image, i + 1, n - 1)
-}
-
-fn put_setting(
-    text: &mut [u8],
-    at: usize,
-    names: &[u8],
-    id: usize,
-    size: usize,
-    before: &[u32],
-    after: &[u32],
-) -> usize
-    requires { (names.now ≡ commands) × ((id + size ≤ 65536) × Bounded at (setting_line id size before.now after.now)) }
-    ensures { Puts (setting_line id size before.now after.now) text.old at text.new result }
-{
-    let at = format::put_format(text, at, names, b"%2%n", &[id, id]);
-    let at = put_words(text, at, before, id, size);
-    let at = text::put_all(text, at, b" ->");
-    let at = put_words(text, at, after, id, size);
-    text::put_all(text, at, b"\n")
-}
-
+// The words of a setting before and after, where one of them differs.
+// two images stay two parameters: a struct would hold two references for four functions
 fn put_change(
-    text: &mut [u8],
-    at: usize,
-    names: &[u8],
+    writer: &mut Writer<'_>,
     id: usize,
     size: usize,
-    before: &[u32],
-    after: &[u32],
-) -> usize
-    requires { (names.now ≡ commands) × ((id + size ≤ 65536) × Bounded at (change_line id size before.now after.now)) }
-    ensures { Puts (change_line id size before.now after.now) text.old at text.new result }
+    before: &[u32; 256],
+    after: &[u32; 256],
+)
+    requires { id + size ≤ 256 }
+    ensures { Wrote (change_line id size before.now after.now) writer.old writer.new }
 {
-    if same(before, after, id, size) {
-        return at;
+    let before = &before[id..id + size];
+    let after = &after[id..id + size];
+    if before == after {
+        return;
     }
-    put_setting(text, at, names, id, size, before, after)
+    format::put_format(writer, names::commands(), b"%2%n", &[id, id]);
+    put_words(writer, before);
+    writer.put_all(b" ->");
+    put_words(writer, after);
+    writer.put_all(b"\n");
 }
 
 // The same by an id: nothing where it is no setting's.
-fn put_id(text: &mut [u8], at: usize, names: &[u8], id: u8, before: &[u32], after: &[u32]) -> usize
-    requires { (names.now ≡ commands) × Bounded at (id_line id before.now after.now) }
-    ensures { Puts (id_line id before.now after.now) text.old at text.new result }
+#[tactic(auto, unfolding(crate::specs::Changes::id_line))]
+fn put_id(writer: &mut Writer<'_>, id: u8, before: &[u32; 256], after: &[u32; 256])
+    ensures { Wrote (id_line id before.now after.now) writer.old writer.new }
 {
     let kind = Settings::kind(id);
-    if kind == Settings::NONE {
-        return at;
-    }
     if kind == Settings::GROUP {
-        return put_change(text, at, names, id as usize, 4, before, after);
+        put_change(writer, id as usize, 4, before, after);
+    } else if kind != Settings::NONE {
+        put_change(writer, id as usize, 1, before, after);
     }
-    put_change(text, at, names, id as usize, 1, before, after)
 }
 
-// The settings from an id on.
-fn put_changes(
-    text: &mut [u8],
-    at: usize,
-    names: &[u8],
-    id: usize,
-    before: &[u32],
-    after: &[u32],
-) -> usize
-    requires { (names.now ≡ commands) × ((id ≤ 256) × Bounded at (lines_from (256 - id) id before.now after.now)) }
-    ensures { Puts (lines_from (256 - id) id before.now after.now) text.old at text.new result }
+fn put_sets(writer: &mut Writer<'_>, before: &[u32; 256], after: &[u32; 256])
+    ensures { Wrote (sets_text before.now after.now) writer.old writer.new }
 {
-    if id == 256 {
-        return at;
+    writer.put_all(b"sets: id name before -> after\n");
+    for id in 0..=255 {
+        put_id(writer, id, before, after);
     }
-    let next = put_id(text, at, names, id as u8, before, after);
-    put_changes(text, next, names, id + 1, before, after)
-}
-
-fn put_sets(text: &mut [u8], at: usize, names: &[u8], before: &[u32], after: &[u32]) -> usize
-    requires { (names.now ≡ commands) × Bounded at (sets_text before.now after.now) }
-    ensures { Puts (sets_text before.now after.now) text.old at text.new result }
-{
-    let at = text::put_all(text, at, b"sets: id name before -> after\n");
-    put_changes(text, at, names, 0, before, after)
 }
 
 // ---- the whole
 
-fn put_draws(text: &mut [u8], at: usize, names: &[u8], records: &[u32]) -> usize
-    requires { (names.now ≡ commands) × Bounded at (draws_text records.now) }
-    ensures { Puts (draws_text records.now) text.old at text.new result }
+fn put_draws(writer: &mut Writer<'_>, records: &[u32])
+    ensures { Wrote (draws_text records.now) writer.old writer.new }
 {
-    let at = text::put_all(text, at, b"draws: at id words head name\n");
-    lines::put_records(text, at, names, b"%d %2 %d %6%n\n", records)
+    writer.put_all(b"draws: at id words head name\n");
+    lines::put_records(writer, names::commands(), b"%d %2 %d %6%n\n", records);
 }
 
 fn put_accepted(
-    text: &mut [u8],
-    a: Answer,
+    writer: &mut Writer<'_>,
+    a: Accepted,
     before: &[u32; 256],
     after: &[u32; 256],
     records: &[u32],
     form: usize,
-) -> usize
-    requires { length records.now ≤ 16384 }
-    ensures { Puts (accepted_text a before.now after.now records.now form) text.old 0 text.new result }
+)
+    ensures { Wrote (accepted_text (answer_of (Ok a)) before.now after.now records.now form) writer.old writer.new }
 {
-    let names = names::commands();
-    let at = lines::put_counts(text, 0, a.commands, a.records);
-    let at = put_sets(text, at, &names, before, after);
-    let at = put_draws(text, at, &names, records);
-    format::put_format(
-        text,
-        at,
-        b"",
-        b"words %d normal form %d\n",
-        &[a.position, form],
-    )
+    lines::put_counts(writer, a.commands, a.records);
+    put_sets(writer, before, after);
+    put_draws(writer, records);
+    let numbers = [a.position, form];
+    format::put_format(writer, b"", b"words %d normal form %d\n", &numbers);
 }
 
 // The reader, on an image and records of a fixed size.
-pub fn read(list: &[u32], image: &mut [u32; 256], records: &mut [u32; 16384]) -> Answer
-    ensures { outcome result image.new records.new ≡ reading list.now image.old records.old }
+pub fn read(
+    list: &[u32],
+    image: &mut [u32; 256],
+    records: &mut [u32; 16384],
+) -> Result<Accepted, Refusal>
+    ensures { outcome (answer_of result) image.new records.new ≡ reading list.now image.old records.old }
 {
     reader::read(list, image, records)
+}
+
+// The words that an answer tells, none on refusal.
+fn words_of(answer: Result<Accepted, Refusal>) -> usize
+    ensures { result ≡ (answer_of answer).words }
+{
+    answer.map_or(0, |a| a.words)
 }
 
 // The verdict on a list from an image, and what it sets and draws; at most 310,000 bytes.
@@ -179,11 +121,12 @@ pub fn put_show(text: &mut [u8], list: &[u32], image: &[u32; 256]) -> usize
 {
     let mut after = *image;
     let mut records = [0u32; 16384];
-    let a = read(list, &mut after, &mut records);
-    if a.verdict != 0 {
-        return verdict::put_verdict(text, a, list, &[], 1024);
-    }
-    let m = form::measure(list, image);
-    let k = a.words;
-    put_accepted(text, a, image, &after, &records[..k], m.words)
+    let answer = read(list, &mut after, &mut records);
+    let Ok(a) = answer else {
+        return verdict::put_verdict(text, answer, list, &[], 1024);
+    };
+    let form = words_of(form::measure(list, image));
+    let mut writer = Writer::new(text, 0);
+    put_accepted(&mut writer, a, image, &after, &records[..a.words], form);
+    writer.position()
 }

@@ -1,15 +1,7 @@
--- The loops of a digest and of a filled buffer, word by word.
-use Rattle.std.proofs.Common.{◌≡◌, ℕ, zero, suc, ◌+◌, ◌-◌, ◌%◌, ◌^◌, ◌<◌, ◌≤◌, List, length, get_or, drop, set, refl, ap, append-nil, arith, drop_of_length-le, drop-cons}
+-- The loop of a filled buffer, word by word.
+use Rattle.std.proofs.Common.{◌≡◌, ℕ, zero, suc, ◌+◌, ◌-◌, ◌%◌, ◌^◌, ◌<◌, ◌≤◌, List, length, set, refl, ap, append-nil, arith}
 use lib.Seq.{sets, sets-eq, drop-length}
-use Rattle.stored.specs.Digest.{mixed, mixed_all, counting}
-
-pub mixed-on : (d i : ℕ) (ws : List ℕ) {e : ℕ} → i < length ws → e ≡ mixed d (get_or ws i 0) → mixed_all d (drop i ws) ≡ mixed_all e (drop (i + 1) ws)
-mixed-on d i ws h is =
-    let n : i + 1 ≡ suc i = omega arith in
-    rw (drop-cons ws i 0 h, n, is)
-
-pub mixed_end : (d i : ℕ) (ws : List ℕ) → length ws ≤ i → mixed_all d (drop i ws) ≡ d
-mixed_end d i ws h = rw (drop_of_length-le ws h)
+use Rattle.stored.specs.Digest.{counting}
 
 counting-length : (w n : ℕ) → length (counting w n) ≡ n
 counting-length w zero = refl
@@ -31,8 +23,3 @@ filled_on w i n b h is =
     let k : n - i ≡ suc (n - (i + 1)) = omega arith in
     let e : i + 1 ≡ suc i = omega arith in
     rw (k, is, e)
-
-pub filled_end : (w i n : ℕ) (b : List ℕ) → n ≤ i → sets b i (counting w (n - i)) ≡ b
-filled_end w i n b h =
-    let k : n - i ≡ 0 = omega arith in
-    rw k

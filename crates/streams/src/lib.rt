@@ -7,12 +7,14 @@ ghost use Rattle.std.specs.Io.KnownBytes.{Consumes, IsAtEnd};
 use std::io;
 
 // Reads until the buffer is full, the input ends or a read fails: how many bytes it put in front, and how it ended.
+// stays: a number beside the buffer, since a failed read has bytes too, and `bytes` and `within` speak of the buffer
 pub fn read_full<R: io::Read>(input: &mut R, buffer: &mut [u8]) -> (usize, io::Result<()>)
     ensures within { result.0 ≤ length buffer.new }
     ensures bytes { Consumes (R.remaining input.old) (R.remaining input.new) (take result.0 buffer.new) }
     ensures end { OnOk result.1 (result.0 < length buffer.new → IsAtEnd (R.remaining input.new)) }
 {
     let mut n = 0;
+    // stays: n counts the bytes that each read gives, and is no index that goes up by one
     while n < buffer.len() {
         match input.read(&mut buffer[n..]) {
             Ok(0) => break,
@@ -32,6 +34,7 @@ fn words_of(text: &str) -> &str {
 }
 
 // Writes a line to standard error: what failed, as the caller names it, a colon and the system's words.
+// stays: `write!` takes text, and a file's name need be none
 pub fn fail(rt: HostRuntime, what: &[u8], e: io::Error) {
     let error = rt.stderr();
     let text = e.to_string(rt.alloc());

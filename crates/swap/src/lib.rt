@@ -5,93 +5,139 @@
 #![tactic(auto)]
 
 ghost use Rattle.std.specs.Prelude.{◌≡◌, ◌≤◌, length};
-ghost use Rattle.rules.specs.Values.{refusal};
-ghost use Rattle.rules.specs.Answer.{outcome, refused_answer};
+ghost use Rattle.rules.specs.Answer.{outcome, reading, normalising};
+ghost use Rattle.rules.specs.Returned.{answer_of};
 ghost use Rattle.rules.specs.Swap.{swap, words_got, reading_in, normalising_in};
+ghost use Rattle.swap.specs.Mode.{mode_number, Decodes};
 
-use endian::little_endian;
-use rules::{Answer, NO_BIT, Refusal};
+use rules::{Accepted, Reason, Refusal};
 
-// The word got in a mode (CommandSwap, 001, 3.1.3).
-fn swap(word: u32, mode: u32) -> u32
-    ensures { result ≡ swap mode word }
-{
-    let a = (word % 0x100) as u8;
-    let b = (word / 0x100 % 0x100) as u8;
-    let c = (word / 0x10000 % 0x100) as u8;
-    let d = (word / 0x1000000 % 0x100) as u8;
-    match mode {
-        0 => word,
-        1 => little_endian(b, a, d, c),
-        2 => little_endian(c, d, a, b),
-        _ => little_endian(d, c, b, a),
+// How a board swaps the bytes of a word (CommandSwap, 001, 3.1.3).
+#[derive(Clone, Copy)]
+enum Mode {
+    Unchanged,
+    BytesInHalves,
+    Halves,
+    AllBytes,
+}
+
+impl TryFrom<u32> for Mode {
+    type Error = Refusal;
+
+    ghost try_from_gives = { Decodes };
+
+    fn try_from(number: u32) -> Result<Self, Refusal> {
+        match number {
+            0 => Ok(Mode::Unchanged),
+            1 => Ok(Mode::BytesInHalves),
+            2 => Ok(Mode::Halves),
+            3 => Ok(Mode::AllBytes),
+            _ => Err(Refusal {
+                reason: Reason::NoSuchMode,
+                word: 0,
+            }),
+        }
+    }
+}
+
+impl Mode {
+    // The word got.
+    #[tactic(auto, unfolding(rules::specs::Swap::swap))]
+    fn swap(self, word: u32) -> u32
+        ensures { result ≡ swap (mode_number self) word }
+    {
+        let [a, b, c, d] = word.to_le_bytes();
+        match self {
+            Mode::Unchanged => word,
+            Mode::BytesInHalves => u32::from_le_bytes([b, a, d, c]),
+            Mode::Halves => u32::from_le_bytes([c, d, a, b]),
+            Mode::AllBytes => u32::from_le_bytes([d, c, b, a]),
+        }
     }
 }
 
 // The words got from a list go to the front of the room, and that part is handed back.
-fn words_got<'a>(list: &[u32], room: &'a mut [u32], mode: u32) -> &'a [u32]
+fn words_got<'a>(list: &[u32], room: &'a mut [u32], mode: Mode) -> &'a [u32]
     requires { length list.now ≤ length room.old }
-    ensures { result.now ≡ words_got mode list.now }
+    ensures { result.now ≡ words_got (mode_number mode) list.now }
 {
-    let mut i = 0;
-    while i < list.len() {
-        room[i] = swap(words::fetch(list, i), mode);
-        i += 1;
+    for (i, word) in list.iter().enumerate() {
+        room[i] = mode.swap(*word);
     }
     let all = &room[..];
-    &all[..i]
+    &all[..list.len()]
 }
 
-fn no_such_mode() -> Answer
-    ensures { result ≡ refused_answer (refusal 21 0) }
+// The reader on the words got, in room for N of them.
+// stays apart from `normalise_got`: tried, one function that takes the call as a closure, but its proof does not close: what a
+// closure's captured `&mut` holds after the call, its caller does not know
+fn read_got<const N: usize>(
+    list: &[u32],
+    image: &mut [u32],
+    records: &mut [u32],
+    mode: Mode,
+) -> Result<Accepted, Refusal>
+    requires { (length list.now ≤ N) × (N ≤ 4096) }
+    ensures { outcome (answer_of result) image.new records.new ≡ reading (words_got (mode_number mode) list.now) image.old records.old }
 {
-    list::refuse(Refusal {
-        number: 21,
-        word: 0,
-        bit: NO_BIT,
-    })
-}
-
-// The reader in a mode. A list that is too long is refused by its length, and its words are not got.
-pub fn read(list: &[u32], image: &mut [u32], records: &mut [u32], mode: u32) -> Answer
-    ensures { outcome result image.new records.new ≡ reading_in list.now image.old records.old mode }
-{
-    if 3 < mode {
-        return no_such_mode();
-    }
-    if mode == 0 || 4096 < list.len() {
-        return reader::read(list, image, records);
-    }
-    if list.len() <= 64 {
-        let mut room = [0u32; 64];
-        return reader::read(words_got(list, &mut room, mode), image, records);
-    }
-    if list.len() <= 512 {
-        let mut room = [0u32; 512];
-        return reader::read(words_got(list, &mut room, mode), image, records);
-    }
-    let mut room = [0u32; 4096];
+    let mut room = [0u32; N];
     reader::read(words_got(list, &mut room, mode), image, records)
 }
 
-// The normaliser in a mode.
-pub fn normalise(list: &[u32], image: &[u32], out: &mut [u32], mode: u32) -> Answer
-    ensures { outcome result image.now out.new ≡ normalising_in list.now image.now out.old mode }
+// The reader in a mode. A list that is too long is refused by its length, and its words are not got.
+#[tactic(auto, using(crate::proofs::Calls::in_numbered))]
+pub fn read(
+    list: &[u32],
+    image: &mut [u32],
+    records: &mut [u32],
+    mode: u32,
+) -> Result<Accepted, Refusal>
+    ensures { outcome (answer_of result) image.new records.new ≡ reading_in list.now image.old records.old mode }
 {
-    if 3 < mode {
-        return no_such_mode();
+    let mode = Mode::try_from(mode)?;
+    if let Mode::Unchanged = mode {
+        return reader::read(list, image, records);
     }
-    if mode == 0 || 4096 < list.len() {
+    match list.len() {
+        0..=64 => read_got::<64>(list, image, records, mode),
+        65..=512 => read_got::<512>(list, image, records, mode),
+        513..=4096 => read_got::<4096>(list, image, records, mode),
+        _ => reader::read(list, image, records),
+    }
+}
+
+// The normaliser on the words got, in room for N of them.
+fn normalise_got<const N: usize>(
+    list: &[u32],
+    image: &[u32],
+    out: &mut [u32],
+    mode: Mode,
+) -> Result<Accepted, Refusal>
+    requires { (length list.now ≤ N) × (N ≤ 4096) }
+    ensures { outcome (answer_of result) image.now out.new ≡ normalising (words_got (mode_number mode) list.now) image.now out.old }
+{
+    let mut room = [0u32; N];
+    form::normalise(words_got(list, &mut room, mode), image, out)
+}
+
+// The normaliser in a mode.
+#[tactic(auto, using(crate::proofs::Calls::in_numbered))]
+pub fn normalise(
+    list: &[u32],
+    image: &[u32],
+    out: &mut [u32],
+    mode: u32,
+) -> Result<Accepted, Refusal>
+    ensures { outcome (answer_of result) image.now out.new ≡ normalising_in list.now image.now out.old mode }
+{
+    let mode = Mode::try_from(mode)?;
+    if let Mode::Unchanged = mode {
         return form::normalise(list, image, out);
     }
-    if list.len() <= 64 {
-        let mut room = [0u32; 64];
-        return form::normalise(words_got(list, &mut room, mode), image, out);
+    match list.len() {
+        0..=64 => normalise_got::<64>(list, image, out, mode),
+        65..=512 => normalise_got::<512>(list, image, out, mode),
+        513..=4096 => normalise_got::<4096>(list, image, out, mode),
+        _ => form::normalise(list, image, out),
     }
-    if list.len() <= 512 {
-        let mut room = [0u32; 512];
-        return form::normalise(words_got(list, &mut room, mode), image, out);
-    }
-    let mut room = [0u32; 4096];
-    form::normalise(words_got(list, &mut room, mode), image, out)
 }

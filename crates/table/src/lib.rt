@@ -19,6 +19,7 @@ pub struct Group {
 // ---- rows
 
 // The rows of document 01's table have numbers, from 0 on in its order. Those that are asked for by number:
+// stay numbers: rows index the constant table of masks, a form that is fixed (docs/DECISIONS.md), and two tests go by their order
 pub const TIMER: u8 = 2;
 
 pub const BEGIN: u8 = 4;
@@ -81,6 +82,7 @@ fn in_set(set: u64, id: u8) -> bool
 }
 
 // The set of the settings' ids, by kind: none of them, one of one word, or one of four.
+// stay constants: kinds as associated constants, and `contains` without a self, are a form that is fixed (docs/DECISIONS.md)
 #[derive(Clone, Copy)]
 pub struct Settings {}
 

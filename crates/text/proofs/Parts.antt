@@ -1,13 +1,15 @@
 -- Parts of a text, put one behind the other.
-use Prim.Native.Nat.{ℕ, ◌+◌, ◌≤◌, ◌<◌}
+use Prim.Native.Nat.{ℕ, ◌+◌, ◌<◌, ◌^◌}
 use native.Mathlib.Omega.{arith}
 use native.Mathlib.Numerals.{add-one}
 use mathlib.Core.Path.{◌≡◌, refl, ap, ap₂, sym, ◌∙◌}
 use mathlib.Core.List.{List, [], ◌∷◌, ◌++◌}
 use lib.ListN.{length, get_or, take, length-append}
-use lib.Seq.{sets, take-suc, length-sets, length-take-le, take_all}
+use lib.Seq.{sets, take-suc, length-sets}
 use Rattle.theory.proofs.Image.{sets_append}
+use Rattle.text.specs.declared.Writer.{Writer}
 use Rattle.text.specs.Puts.{Puts, Bounded}
+use Rattle.text.specs.Wrote.{Wrote}
 
 -- two parts are one
 pub puts_then : {p q t u v : List ℕ} {at m n : ℕ} → Puts p t at u m → Puts q u m v n → Puts (p ++ q) t at v n
@@ -17,27 +19,26 @@ puts_then {p} {q} {t} {u} {v} {at} {m} {n} a b =
       text-is = b.text-is ∙ ap₂ (λ (l : List ℕ) (k : ℕ). sets l k q) a.text-is a.next-is ∙ sym (sets_append t at p q);
     }
 
--- one byte more of some bytes
-pub puts-more : (bs t : List ℕ) (at i : ℕ) {u v : List ℕ} {n : ℕ} → i < length bs → u ≡ sets t at (take i bs) → Puts (get_or bs i 0 ∷ []) u (at + i) v n
-    → v ≡ sets t at (take (i + 1) bs)
-puts-more bs t at i {u} {v} h e a =
-    let s : take (i + 1) bs ≡ take i bs ++ (get_or bs i 0 ∷ []) = rw add-one (take-suc bs i 0 h) in
-    let k : length (take i bs) ≡ i = length-take-le i bs (omega arith) in
-    rw (s, sets_append t at (take i bs) (get_or bs i 0 ∷ []), k) (a.text-is ∙ ap (λ (l : List ℕ). sets l (at + i) (get_or bs i 0 ∷ [])) e)
-
-pub puts-all : (bs t : List ℕ) (at i : ℕ) {u : List ℕ} → i ≤ length bs → length bs ≤ i → u ≡ sets t at (take i bs) → Puts bs t at u (at + i)
-puts-all bs t at i h l e =
-    record { next-is = omega arith; text-is = e ∙ ap (sets t at) (take_all i bs l) }
-
 pub puts-length : {p t u : List ℕ} {at n : ℕ} → Puts p t at u n → length u ≡ length t
 puts-length {p} {t} {u} {at} a = ap length a.text-is ∙ length-sets t at p
 
-pub puts_none : {p t : List ℕ} {at : ℕ} → p ≡ [] → Puts p t at t at
-puts_none e = rw e (record { next-is = omega arith; text-is = refl })
+pub wrote_then : {p q : List ℕ} {u v w : Writer} → Wrote p u v → Wrote q v w → Wrote (p ++ q) u w
+wrote_then {p} {q} {u} {v} {w} a b =
+    record {
+      same-reference = b.same-reference ∙ a.same-reference;
+      puts = λ (room : Bounded u.at (p ++ q)).
+          let first = a.puts (record { bound = omega (arith, room.bound, length-append p q) }) in
+          puts_then first (b.puts (record { bound = omega (arith, room.bound, first.next-is, length-append p q) }));
+    }
 
--- what comes first of a part that has room, and what comes behind it, has room
-pub bounded_first : {at : ℕ} (p q : List ℕ) → Bounded at (p ++ q) → Bounded at p
-bounded_first p q b = record { bound = omega (arith, b.bound, length-append p q) }
+pub wrote_none : {p : List ℕ} {w : Writer} → p ≡ [] → Wrote p w w
+wrote_none e = rw e (record { same-reference = refl; puts = λ _. record { next-is = omega arith; text-is = refl } })
 
-pub bounded_then : {t u : List ℕ} {at n : ℕ} (p q : List ℕ) → Bounded at (p ++ q) → Puts p t at u n → Bounded n q
-bounded_then p q b a = record { bound = omega (arith, b.bound, length-append p q, a.next-is) }
+-- one byte more of some bytes
+pub wrote-more : (bs : List ℕ) (i : ℕ) {u v w : Writer} → i < length bs → Wrote (take i bs) u v → Wrote (get_or bs i 0 ∷ []) v w → Wrote (take (i + 1) bs) u w
+wrote-more bs i h a b = rw (add-one, take-suc bs i 0 h) (wrote_then a b)
+
+-- what a writer put stands in the text that it was lent
+pub written : {p t t' : List ℕ} {at n : ℕ} {u v : Writer} → Wrote p u v → u.at ≡ at → at + length p < 2 ^ 64 → u.text.now ≡ t → t' ≡ v.text.now → n ≡ v.at
+    → Puts p t at t' n
+written a e room before after next = rw (next, after) (rw (e, before) at (a.puts (record { bound = omega arith })))

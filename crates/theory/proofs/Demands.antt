@@ -16,8 +16,8 @@ use Rattle.rules.specs.Valid.{Accepted}
 use Rattle.rules.specs.Image.{final, Unset}
 use Rattle.rules.specs.Records.{records, record_words, without_positions}
 use Rattle.rules.specs.Form.{form}
-use Rattle.rules.specs.declared.Answer.{Answer}
-use Rattle.rules.specs.declared.Refusal.{Refusal}
+use Rattle.rules.specs.Verdict.{Answer}
+use Rattle.rules.specs.Verdict.{Refusal}
 use Rattle.rules.specs.Answer.{Outcome, refused_answer, refusal_of, tells_bit, TellsLowest, refuse, accept, room, reading, normalising, measuring, commands_of, does, normal_form, written}
 use Rattle.rules.specs.Pci.{pairs_all, values, whole_pairs, parse_pairs, to_pci, from_pci}
 use Rattle.rules.specs.Session.{SessionOutcome, opened, left, part, outside, read_from, reading_scenes, Bounded, as_session, SameApplied, first_pairs, next_pair, StopsAt}

@@ -14,7 +14,7 @@ use lib.ListN.{length, take, drop, take-append-drop}
 use Rattle.rules.specs.Word.{id_of, header_of, first_word}
 use Rattle.rules.specs.Table.{Row, table, find, row_of}
 use Rattle.rules.specs.Command.{Command, words_all, rest_size, size_of, command_size}
-use Rattle.rules.specs.declared.Refusal.{Refusal}
+use Rattle.rules.specs.Verdict.{Refusal}
 use Rattle.rules.specs.Decode.{Decoded, bad, good, decode_known, decode}
 use Rattle.rules.specs.Walk.{State, start, order_faults, next, Step, stop, took, step_decoded, step, Parsed, refused, accepted, and_then, onward, walk, sized, parse}
 use Rattle.theory.proofs.Rows.{found-step}

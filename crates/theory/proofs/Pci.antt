@@ -10,7 +10,7 @@ use lib.Pow.{high}
 use borrow.Author.Tests.{eqb-true, eq-eqb}
 use lib.ListN.{length, get_or, take, drop, length-append}
 use lib.Seq.{take-append_seam, drop-append_seam}
-use Rattle.rules.specs.declared.Refusal.{Refusal}
+use Rattle.rules.specs.Verdict.{Refusal}
 use Rattle.rules.specs.Word.{id_of, first_word}
 use Rattle.rules.specs.Command.{Command, words, words_all, command_size}
 use Rattle.rules.specs.Values.{refusal}

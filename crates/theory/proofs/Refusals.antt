@@ -11,7 +11,7 @@ use lib.Dec.{eqb, leb, ltb}
 use borrow.Author.Tests.{leb-true, ltb-false, eqb-true}
 use lib.ListN.{length, get_or, take, length-take}
 use lib.Seq.{get_or-take}
-use Rattle.rules.specs.declared.Refusal.{Refusal}
+use Rattle.rules.specs.Verdict.{Refusal}
 use Rattle.rules.specs.Word.{id_of, header_of, lowest_undefined, undefined, LowestUndefinedAt}
 use Rattle.rules.specs.Table.{Row, row_of}
 use Rattle.rules.specs.Command.{Command, more_masks, own_size, rest_size, size_of, command_size}

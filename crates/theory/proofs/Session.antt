@@ -10,8 +10,8 @@ use lib.Dec.{eqb, leb, ltb}
 use borrow.Author.Tests.{eq-eqb, ne_eqb, eqb-true, eqb-false, leb-false, ltb-false, le-ltb}
 use lib.ListN.{length, get_or, take, drop, length-append, length-drop, take-append-drop}
 use lib.Seq.{length-take-le, drop-append-add, drop-cons, drop-drop}
-use Rattle.rules.specs.declared.Answer.{Answer}
-use Rattle.rules.specs.declared.SessionAnswer.{SessionAnswer}
+use Rattle.rules.specs.Verdict.{Answer}
+use Rattle.rules.specs.Verdict.{SessionAnswer}
 use Rattle.rules.specs.Values.{refusal}
 use Rattle.rules.specs.Answer.{Outcome, refusal_of, tells_bit, refuse, reading}
 use Rattle.rules.specs.Session.{SessionOutcome, opened, added, left, part, outside, pair_call, with_pair, with_pair_of, turn, read_from, reading_scenes, Bounded, as_session, SameApplied, first_pairs, next_pair, StopsAt}

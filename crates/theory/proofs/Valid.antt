@@ -13,7 +13,7 @@ use lib.Seq.{take-take, length-take-le, take-append-le, take-append_seam}
 use Rattle.rules.specs.Word.{first_word}
 use Rattle.rules.specs.Table.{setting, Row, row_of}
 use Rattle.rules.specs.Command.{Command, payload, own_size, rest_size, command_size}
-use Rattle.rules.specs.declared.Refusal.{Refusal}
+use Rattle.rules.specs.Verdict.{Refusal}
 use Rattle.rules.specs.Values.{refusal, Fault, first_fault, faults}
 use Rattle.rules.specs.Decode.{Decoded, bad, good, decode_row}
 use Rattle.rules.specs.Valid.{NoFault, Valid}

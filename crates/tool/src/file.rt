@@ -1,14 +1,18 @@
 // Files by name, and lines on standard error.
-ghost use Rattle.std.specs.Prelude.{◌≡◌, ◌<◌, ◌≤◌, ◌↔◌, IsTrue, IfSome, length, codes};
-ghost use Rattle.std.specs.Io.{StartsWith};
+ghost use Rattle.std.specs.Prelude.{◌≡◌, ◌<◌, ◌≤◌, ◌↔◌, IsTrue, IsOkAnd, IfOk, length, codes};
 
 use std::fs::{File, OpenOptions};
 use std::io::{Read, Write};
 use std::random::RandomSource;
 use std::{fs, io};
 use streams::read_full;
+use text::Writer;
 
 // ---- what is said
+
+// Nothing was written, and it has been told why: by a line on standard error, or by the verdict.
+#[derive(Clone, Copy, Debug, PartialEq, Eq)]
+pub struct Told;
 
 // Bytes on standard error. Where they cannot be written, nobody can be told.
 pub fn put_error(rt: HostRuntime, bytes: &[u8]) {
@@ -16,31 +20,31 @@ pub fn put_error(rt: HostRuntime, bytes: &[u8]) {
 }
 
 // A line with a name in it.
-pub fn say(rt: HostRuntime, name: &[u8], what: &[u8]) {
+// stays: `eprintln!` takes text, and a name need be none
+pub fn say(rt: HostRuntime, name: &[u8], what: &[u8]) -> Told {
     put_error(rt, b"xp10: ");
     put_error(rt, name);
     put_error(rt, what);
     put_error(rt, b"\n");
+    Told
 }
 
 // A line with the system's reason for a failure.
-pub fn fail(rt: HostRuntime, name: &[u8], e: io::Error) {
+pub fn fail(rt: HostRuntime, name: &[u8], e: io::Error) -> Told {
     put_error(rt, b"xp10: ");
     streams::fail(rt, name, e);
+    Told
 }
 
 // ---- names
 
-pub fn begins(name: &[u8], with: &[u8]) -> bool
-    ensures { IsTrue result ↔ StartsWith name.now with.now }
-{
-    name.starts_with(with)
-}
+// The name of standard input and output.
+const STANDARD: &[u8] = b"-";
 
-pub fn is(name: &[u8], other: &[u8]) -> bool
-    ensures { IsTrue result ↔ (name.now ≡ other.now) }
+pub fn is_standard(name: &[u8]) -> bool
+    ensures { IsTrue result ↔ (name.now ≡ codes "-") }
 {
-    name == other
+    name == STANDARD
 }
 
 // What a system says that has no file by a name which is no text.
@@ -48,85 +52,73 @@ const NO_TEXT: i32 = 84;
 
 // A name as the text that std's files go by.
 fn path_of(name: &[u8]) -> io::Result<&str> {
-    match str::from_utf8(name) {
-        Ok(path) => Ok(path),
-        Err(_) => Err(io::Error::from_raw_os_error(NO_TEXT)),
-    }
+    str::from_utf8(name).map_err(|_| io::Error::from_raw_os_error(NO_TEXT))
 }
 
 // ---- reading
 
-// Reads until there are as many bytes as asked for or the input ends, and answers the number of bytes, or none where a read
-// failed.
-fn read_all<R: Read>(
+// Reads until the buffer is full or the input ends, and answers the bytes that came.
+fn read_all<'a, R: Read>(
     rt: HostRuntime,
     input: &mut R,
     name: &[u8],
-    buffer: &mut [u8],
-    most: usize,
-) -> Option<usize>
-    requires { most ≤ length buffer.old }
-    ensures { IfSome result (λ n. n ≤ most) }
+    buffer: &'a mut [u8],
+) -> Result<&'a [u8], Told>
+    ensures { IfOk result (λ bytes. length bytes.now ≤ length buffer.old) }
 {
-    match read_full(input, &mut buffer[..most]) {
-        (n, Ok(())) => Some(n),
-        (_, Err(e)) => {
-            fail(rt, name, e);
-            None
-        }
-    }
+    let (n, end) = read_full(input, buffer);
+    end.map_err(|e| fail(rt, name, e))?;
+    Ok(&buffer[..n])
 }
 
 fn open(rt: HostRuntime, name: &[u8]) -> io::Result<File> {
     File::open(&rt, path_of(name)?)
 }
 
-// A file, or standard input.
-pub fn read(rt: HostRuntime, name: &[u8], buffer: &mut [u8], most: usize) -> Option<usize>
-    requires { most ≤ length buffer.old }
-    ensures { IfSome result (λ n. n ≤ most) }
+// A file, or standard input, as far as the buffer has room for it.
+pub fn read<'a>(rt: HostRuntime, name: &[u8], buffer: &'a mut [u8]) -> Result<&'a [u8], Told>
+    ensures { IfOk result (λ bytes. length bytes.now ≤ length buffer.old) }
 {
-    if is(name, b"-") {
-        return read_all(rt, &mut rt.stdin(), b"standard input", buffer, most);
+    if is_standard(name) {
+        return read_all(rt, &mut rt.stdin(), b"standard input", buffer);
     }
-    match open(rt, name) {
-        Ok(mut file) => read_all(rt, &mut file, name, buffer, most),
-        Err(e) => {
-            fail(rt, name, e);
-            None
-        }
-    }
+    let mut file = open(rt, name).map_err(|e| fail(rt, name, e))?;
+    read_all(rt, &mut file, name, buffer)
 }
 
-// The same; `zero` is an image of zeros, which the buffer has.
-pub fn read_image(rt: HostRuntime, name: &[u8], buffer: &mut [u8]) -> Option<usize>
-    ensures within { IfSome result (λ n. 1024 ≤ length buffer.old → n ≤ length buffer.old) }
-    ensures zero { name.now ≡ codes "zero" → result ≡ Some 1024 }
+static ZERO_IMAGE: [u8; 1024] = [0; 1024];
+
+// The same; `zero` is an image of zeros.
+pub fn read_image<'a>(rt: HostRuntime, name: &[u8], buffer: &'a mut [u8]) -> Result<&'a [u8], Told>
+    ensures within { IfOk result (λ image. 1024 ≤ length buffer.old → length image.now ≤ length buffer.old) }
+    ensures zero { name.now ≡ codes "zero" → IsOkAnd result (λ image. image.now ≡ ZERO_IMAGE) }
 {
-    if is(name, b"zero") {
-        return Some(1024);
+    if name == b"zero".as_slice() {
+        return Ok(&ZERO_IMAGE);
     }
-    let most = buffer.len();
-    read(rt, name, buffer, most)
+    read(rt, name, buffer)
 }
 
 // ---- writing
 
-fn wide(byte: u8) -> usize {
-    byte as usize
-}
-
 // The name of a temporary file beside a file: the name, eight random digits, and `tmp`.
-fn temporary(rt: HostRuntime, name: &[u8], path: &mut [u8]) -> usize
+fn temporary<'a>(rt: HostRuntime, name: &[u8], path: &'a mut [u8]) -> &'a [u8]
     requires name { length name.now < 4096 }
     requires room { 4200 ≤ length path.old }
-    ensures { result ≤ length path.new }
 {
     let mut key = [0u8; 4];
     let _ = rt.fill_bytes(&mut key);
-    let digits = [wide(key[0]), wide(key[1]), wide(key[2]), wide(key[3])];
-    let at = text::put_all(path, 0, name);
-    format::put_format(path, at, b"", b".%2%2%2%2.tmp", &digits)
+    let digits = [
+        key[0] as usize,
+        key[1] as usize,
+        key[2] as usize,
+        key[3] as usize,
+    ];
+    let mut writer = Writer::new(path, 0);
+    writer.put_all(name);
+    format::put_format(&mut writer, b"", b".%2%2%2%2.tmp", &digits);
+    let end = writer.position();
+    &path[..end]
 }
 
 // Makes a file where there is none.
@@ -148,10 +140,7 @@ fn replace(rt: HostRuntime, path: &[u8], name: &[u8], bytes: &[u8]) -> io::Resul
     let path = path_of(path)?;
     let name = path_of(name)?;
     let file = create(rt, path)?;
-    let mut result = write(file, bytes);
-    if result.is_ok() {
-        result = fs::rename(&rt, path, name);
-    }
+    let result = write(file, bytes).and_then(|()| fs::rename(&rt, path, name));
     if result.is_err() {
         let _ = fs::remove_file(&rt, path);
     }
@@ -159,22 +148,14 @@ fn replace(rt: HostRuntime, path: &[u8], name: &[u8], bytes: &[u8]) -> io::Resul
 }
 
 // Writes a file whole or not at all. A device is no file to put another in the place of.
-pub fn save(rt: HostRuntime, name: &[u8], bytes: &[u8]) -> bool {
-    if begins(name, b"/dev/") {
-        say(rt, name, b": not a file, use - for standard output");
-        return false;
+pub fn save(rt: HostRuntime, name: &[u8], bytes: &[u8]) -> Result<(), Told> {
+    if name.starts_with(b"/dev/") {
+        return Err(say(rt, name, b": not a file, use - for standard output"));
     }
     if 4096 <= name.len() {
-        say(rt, name, b": File name too long");
-        return false;
+        return Err(say(rt, name, b": File name too long"));
     }
     let mut path = [0u8; 4200];
-    let n = temporary(rt, name, &mut path);
-    match replace(rt, &path[..n], name, bytes) {
-        Ok(()) => true,
-        Err(e) => {
-            fail(rt, name, e);
-            false
-        }
-    }
+    let path = temporary(rt, name, &mut path);
+    replace(rt, path, name, bytes).map_err(|e| fail(rt, name, e))
 }

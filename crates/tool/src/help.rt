@@ -1,5 +1,5 @@
 // The tool's words, and the refusals.
-use crate::file::fail;
+use crate::file::{Told, fail};
 use std::io;
 
 const WORDS: &str = "xp10 reads the command lists of Volari XP10 boards before the board does.
@@ -25,11 +25,9 @@ from 0; of PCI writes they count pairs.
 // The words, and then the refusals.
 fn print(rt: HostRuntime) -> io::Result<()> {
     rt.write_all(WORDS.as_bytes())?;
-    rt.write_all(&names::refusals())
+    rt.write_all(names::refusals())
 }
 
-pub fn help(rt: HostRuntime) {
-    if let Err(e) = print(rt) {
-        fail(rt, b"standard output", e);
-    }
+pub fn help(rt: HostRuntime) -> Result<(), Told> {
+    print(rt).map_err(|e| fail(rt, b"standard output", e))
 }

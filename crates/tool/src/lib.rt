@@ -4,15 +4,13 @@
 mod file;
 mod help;
 
-ghost use Rattle.std.specs.Prelude.{◌≤◌, IfSome, length};
-
 use desk::Task;
-use file::{fail, is, put_error, say};
+use file::{Told, fail, is_standard, put_error, say};
 use std::env::{Env, FillError};
 
 // ---- a task
 
-#[derive(Clone, Copy)]
+#[derive(Clone, Copy, Debug, PartialEq, Eq)]
 enum Stream {
     Output,
     Error,
@@ -29,170 +27,142 @@ fn tell(rt: HostRuntime, to: Stream, text: &[u8]) {
 }
 
 // Where the text goes: to standard error where the words go to standard output.
-fn channel(out: &[u8]) -> Stream {
-    if is(out, b"-") {
+fn channel(out: Option<&[u8]>) -> Stream {
+    if out.is_some_and(is_standard) {
         return Stream::Error;
     }
     Stream::Output
 }
 
-fn write(rt: HostRuntime, out: &[u8], bytes: &[u8]) -> bool {
-    if !is(out, b"-") {
-        return file::save(rt, out, bytes);
+fn write(rt: HostRuntime, out: &[u8], bytes: &[u8]) -> Result<(), Told> {
+    if is_standard(out) {
+        return rt
+            .write_all(bytes)
+            .map_err(|e| fail(rt, b"standard output", e));
     }
-    match rt.write_all(bytes) {
-        Ok(()) => true,
-        Err(e) => {
-            fail(rt, b"standard output", e);
-            false
-        }
-    }
+    file::save(rt, out, bytes)
 }
 
-// Puts the words where they belong, if there are any, and tells the verdict, and that they were written. It answers
-// whether they were.
-fn put(rt: HostRuntime, out: &[u8], writes: bool, text: &[u8], verdict: usize, bytes: &[u8]) -> bool
-    requires { verdict ≤ length text.now }
-{
-    if !writes {
+// Puts the words where they belong, if there are any, and tells the verdict, and that they were written.
+fn put(
+    rt: HostRuntime,
+    out: Option<&[u8]>,
+    verdict: &[u8],
+    text: &[u8],
+    bytes: Option<&[u8]>,
+) -> Result<(), Told> {
+    let (Some(name), Some(bytes)) = (out, bytes) else {
         tell(rt, channel(out), text);
-        return false;
-    }
-    if !write(rt, out, bytes) {
-        tell(rt, channel(out), &text[..verdict]);
-        return false;
-    }
+        return Err(Told);
+    };
+    let written = write(rt, name, bytes);
+    let text = if written.is_ok() { text } else { verdict };
     tell(rt, channel(out), text);
-    true
+    written
 }
 
-// The image first: where it cannot be read, no list is.
-fn make(rt: HostRuntime, task: Task, list: &[u8], image: &[u8], out: &[u8]) -> bool {
-    if is(list, b"-") && is(image, b"-") {
-        say(rt, b"standard input", b" can be read only once");
-        return false;
+// The image first: where it cannot be read, no list is. It fails too where no words are written.
+fn make(
+    rt: HostRuntime,
+    task: Task,
+    list: &[u8],
+    image: &[u8],
+    out: Option<&[u8]>,
+) -> Result<(), Told> {
+    if is_standard(list) && is_standard(image) {
+        return Err(say(rt, b"standard input", b" can be read only once"));
     }
     let mut registers = [0u8; 65536];
-    let Some(m) = file::read_image(rt, image, &mut registers) else {
-        return false;
-    };
+    let registers = file::read_image(rt, image, &mut registers)?;
     let mut input = [0u8; 65536];
     // one byte more than is taken
-    let Some(n) = file::read(rt, list, &mut input, desk::most(task) + 1) else {
-        return false;
+    let input = file::read(rt, list, &mut input[..desk::most(task) + 1])?;
+    let mut text = [0u8; desk::TEXT];
+    let mut words = [0u8; desk::WORDS];
+    let made = desk::run(task, input, registers, &mut text, &mut words);
+    let bytes = match made.out {
+        Some(n) => Some(&words[..n]),
+        None => None,
     };
-    let mut text = desk::text_buffer();
-    let mut bytes = desk::word_buffer();
-    let made = desk::run(task, &input[..n], &registers[..m], &mut text, &mut bytes);
-    put(
-        rt,
-        out,
-        made.writes,
-        &text[..made.text],
-        made.verdict,
-        &bytes[..made.out],
-    )
+    put(rt, out, &text[..made.verdict], &text[..made.text], bytes)
 }
 
 // ---- arguments
 
-// An argument, at the front of a buffer, and its length: 0 where it is left out. One that is not whole there is told.
-fn argument(rt: HostRuntime, i: usize, buffer: &mut [u8]) -> Option<usize>
-    ensures { IfSome result (λ n. n ≤ length buffer.new) }
-{
+// An argument, at the front of a buffer, if it is not left out. One that is not whole there is told.
+fn argument(rt: HostRuntime, i: usize, buffer: &mut [u8; 4096]) -> Result<Option<&[u8]>, Told> {
     match rt.arg(i, buffer) {
-        Ok(n) => Some(n),
-        Err(FillError::NotPresent) => Some(0),
-        Err(FillError::TooLong) => {
-            say(rt, b"argument", b": File name too long");
-            None
-        }
+        Ok(n) => Ok(Some(&buffer[..n])),
+        Err(FillError::NotPresent) => Ok(None),
+        Err(FillError::TooLong) => Err(say(rt, b"argument", b": File name too long")),
     }
-}
-
-// The name of the image; `zero` where it is left out.
-fn image_name(rt: HostRuntime, count: usize, buffer: &mut [u8]) -> Option<usize>
-    requires { 4 ≤ length buffer.old }
-    ensures { IfSome result (λ n. n ≤ length buffer.new) }
-{
-    if 3 < count {
-        return argument(rt, 3, buffer);
-    }
-    Some(text::put_all(buffer, 0, b"zero"))
 }
 
 // A task with the names of its list, of its image, and of where the words go, which `show` has not.
-fn perform(rt: HostRuntime, task: Task, count: usize) {
+fn perform(rt: HostRuntime, task: Task) -> Result<(), Told> {
     let mut list = [0u8; 4096];
-    let Some(l) = argument(rt, 2, &mut list) else {
-        return;
-    };
+    let list = argument(rt, 2, &mut list)?.unwrap_or(b"");
     let mut image = [0u8; 4096];
-    let Some(i) = image_name(rt, count, &mut image) else {
-        return;
-    };
+    let image = argument(rt, 3, &mut image)?.unwrap_or(b"zero");
     let mut out = [0u8; 4096];
-    let Some(o) = argument(rt, 4, &mut out) else {
-        return;
-    };
-    let is_done = make(rt, task, &list[..l], &image[..i], &out[..o]);
-    if (is_done | (count < 5)) | is(&out[..o], b"-") {
-        return;
+    let out = argument(rt, 4, &mut out)?;
+    let done = make(rt, task, list, image, out);
+    if let (Err(Told), Some(name)) = (done, out)
+        && !is_standard(name)
+    {
+        say(rt, name, b": not written");
     }
-    say(rt, &out[..o], b": not written");
+    done
 }
 
-#[derive(Clone, Copy)]
+#[derive(Clone, Copy, Debug, PartialEq, Eq)]
 enum Word {
     Task(Task),
-    Show,
     Help,
-    Unknown,
 }
 
-fn word_of(word: &[u8]) -> Word {
-    match word {
-        b"show" => Word::Show,
-        b"image" => Word::Task(Task::Image),
-        b"normalise" => Word::Task(Task::Normalise),
-        b"pci" => Word::Task(Task::Pci),
-        b"list" => Word::Task(Task::List),
-        b"help" => Word::Help,
-        _ => Word::Unknown,
+// A word that the tool does not have.
+#[derive(Clone, Copy, Debug, PartialEq, Eq)]
+struct UnknownWord;
+
+impl TryFrom<&[u8]> for Word {
+    type Error = UnknownWord;
+
+    fn try_from(word: &[u8]) -> Result<Word, UnknownWord> {
+        match word {
+            b"show" => Ok(Word::Task(Task::Show)),
+            b"image" => Ok(Word::Task(Task::Image)),
+            b"normalise" => Ok(Word::Task(Task::Normalise)),
+            b"pci" => Ok(Word::Task(Task::Pci)),
+            b"list" => Ok(Word::Task(Task::List)),
+            b"help" => Ok(Word::Help),
+            _ => Err(UnknownWord),
+        }
     }
 }
 
-// Whether there are as many arguments as a word takes.
-fn counted(rt: HostRuntime, count: usize, least: usize, most: usize) -> bool {
+// Fails where there are not as many arguments as a word takes.
+fn counted(rt: HostRuntime, count: usize, least: usize, most: usize) -> Result<(), Told> {
     if count < least {
-        say(rt, b"too few arguments", b", see xp10 help");
-        return false;
+        return Err(say(rt, b"too few arguments", b", see xp10 help"));
     }
     if most < count {
-        say(rt, b"too many arguments", b", see xp10 help");
-        return false;
+        return Err(say(rt, b"too many arguments", b", see xp10 help"));
     }
-    true
+    Ok(())
 }
 
-fn dispatch(rt: HostRuntime, word: Word, count: usize) {
+fn dispatch(rt: HostRuntime, word: Word, count: usize) -> Result<(), Told> {
     match word {
-        Word::Show => {
-            if counted(rt, count, 3, 4) {
-                perform(rt, Task::Show, count);
-            }
-        }
         Word::Task(task) => {
-            if counted(rt, count, 5, 5) {
-                perform(rt, task, count);
-            }
+            let (least, most) = if task == Task::Show { (3, 4) } else { (5, 5) };
+            counted(rt, count, least, most)?;
+            perform(rt, task)
         }
         Word::Help => {
-            if counted(rt, count, 2, 2) {
-                help::help(rt);
-            }
+            counted(rt, count, 2, 2)?;
+            help::help(rt)
         }
-        Word::Unknown => {}
     }
 }
 
@@ -206,21 +176,21 @@ fn argument_count(rt: HostRuntime) -> usize {
     6
 }
 
-pub fn run(rt: HostRuntime) {
+fn try_run(rt: HostRuntime) -> Result<(), Told> {
     let count = argument_count(rt);
-    if !counted(rt, count, 2, 5) {
-        return;
-    }
+    counted(rt, count, 2, 5)?;
     let mut name = [0u8; 4096];
-    let Some(n) = argument(rt, 1, &mut name) else {
-        return;
-    };
-    let word = word_of(&name[..n]);
-    if let Word::Unknown = word {
+    let name = argument(rt, 1, &mut name)?.unwrap_or(b"");
+    let Ok(word) = Word::try_from(name) else {
         put_error(rt, b"xp10: unknown word ");
-        put_error(rt, &name[..n]);
+        put_error(rt, name);
         put_error(rt, b", see xp10 help\n");
-        return;
-    }
-    dispatch(rt, word, count);
+        return Err(Told);
+    };
+    dispatch(rt, word, count)
+}
+
+// What fails is said where it does. The exit status is 0 all the same.
+pub fn run(rt: HostRuntime) {
+    let _ = try_run(rt);
 }

@@ -1,6 +1,10 @@
--- The rules on values that a group breaks, by command, as the code asks for them: an illegal value in each word, and the number of
--- the first clash. Their first refusal is that of the rules' own faults (proofs/Broken.antt).
-use Rattle.std.specs.Prelude.{ℕ, ◌+◌, false, cond, not, ◌&&◌, ◌||◌, eqb, ltb}
+-- The rules on values that a group breaks, by command, as the code asks for them: an illegal value in each word, and the
+-- first clash. Their first refusal is that of the rules' own faults (proofs/Broken.antt).
+use Rattle.std.specs.Prelude.{◌+◌, Option, None, false, not, ◌&&◌, ◌||◌, eqb, ltb}
+use Rattle.std.specs.Bool.{then_some}
+use Rattle.std.specs.Option.{option_or}
+use Rattle.rules.specs.declared.Reason.{Reason}
+use Rattle.rules.specs.declared.Reason.TheVariants.{PageMaximum, PageMinimum, RasterBits, FloatBit, PlaneRange}
 use Rattle.rules.specs.Word.{bits}
 use Rattle.rules.specs.Values.{page_limit}
 use Rattle.table.specs.declared.Group.{Group}
@@ -11,13 +15,13 @@ unfoldable pub load_broken : Group → Faults
 load_broken g =
     let code = bits g.header 20 3 in
     let bare = not (eqb code 1) && not (eqb code 2) in
-    let range : ℕ = cond (eqb code 5 && ltb 8 (bits g.header 10 9 + bits g.header 0 9)) 19 0 in
+    let range : Option Reason = then_some (eqb code 5 && ltb 8 (bits g.header 10 9 + bits g.header 0 9)) PlaneRange in
     record {
       first = ltb 2 code && not (eqb code 5);
       second = not (eqb code 2) && not (eqb g.second 0);
       third = bare && not (eqb g.third 0);
       fourth = bare && not (eqb g.fourth 0);
-      clash = cond (not (eqb code 5) && eqb (bits g.header 23 1) 1) 18 range;
+      clash = option_or (then_some (not (eqb code 5) && eqb (bits g.header 23 1) 1) FloatBit) range;
     }
 
 unfoldable pub primitive_broken : Group → Faults
@@ -27,7 +31,7 @@ primitive_broken g =
       second = not (eqb g.second 0);
       third = not (eqb g.third 0);
       fourth = not (eqb g.fourth 0);
-      clash = 0;
+      clash = None;
     }
 
 unfoldable pub clip_broken : Group → Faults
@@ -35,13 +39,13 @@ clip_broken g =
     let bank = bits g.second 28 2 in
     let most = bits g.third 28 4 in
     let least = bits g.third 12 4 in
-    let minimum : ℕ = cond (not (eqb least 0 || ltb least (most + 1))) 16 0 in
+    let minimum : Option Reason = then_some (not (eqb least 0 || ltb least (most + 1))) PageMinimum in
     record {
       first = false;
       second = eqb bank 3;
       third = false;
       fourth = false;
-      clash = cond (ltb (page_limit bank) most) 15 minimum;
+      clash = option_or (then_some (ltb (page_limit bank) most) PageMaximum) minimum;
     }
 
 unfoldable pub raster_broken : Group → Faults
@@ -51,5 +55,5 @@ raster_broken g =
       second = false;
       third = false;
       fourth = false;
-      clash = cond (eqb (bits g.header 22 1) 0 && eqb (bits g.header 14 1) 1) 17 0;
+      clash = then_some (eqb (bits g.header 22 1) 0 && eqb (bits g.header 14 1) 1) RasterBits;
     }

@@ -1,28 +1,21 @@
 // The rules on the values of a command's words, by command: illegal values and clashes.
 #![tactic(auto)]
 
-ghost use Rattle.std.specs.Prelude.{◌≡◌, cond};
+ghost use Rattle.std.specs.Prelude.{◌≡◌};
 ghost use Rattle.rules.specs.Values.{page_limit};
 ghost use Rattle.values.specs.Broken.{load_broken, primitive_broken, clip_broken, raster_broken};
 
+use rules::Reason;
 use table::Group;
 
-// The rules on values that a command breaks: an illegal value in each of its words, and the number of its first clash, 0
-// where there is none.
-#[derive(Clone, Copy)]
+// The rules on values that a command breaks: an illegal value in each of its words, and its first clash.
+#[derive(Clone, Copy, PartialEq, Eq)]
 pub struct Faults {
     pub first: bool,
     pub second: bool,
     pub third: bool,
     pub fourth: bool,
-    pub clash: u32,
-}
-
-// The number of a clash where it is found, else that of the next.
-fn clash(found: bool, number: u32, next: u32) -> u32
-    ensures { result ≡ cond found number next }
-{
-    if found { number } else { next }
+    pub clash: Option<Reason>,
 }
 
 pub fn load_faults(g: Group) -> Faults
@@ -31,14 +24,16 @@ pub fn load_faults(g: Group) -> Faults
     let code = (g.header >> 20) % 8;
     let floats = (g.header >> 23) % 2;
     let planes = (g.header >> 10) % 512 + g.header % 512;
-    let range = clash((code == 5) & (8 < planes), 19, 0);
+    let range = ((code == 5) & (8 < planes)).then_some(Reason::PlaneRange);
     let bare = (code != 1) & (code != 2); // 0 or 5: other codes are illegal, in the first word
     Faults {
         first: (2 < code) & (code != 5),
         second: (code != 2) & (g.second != 0),
         third: bare & (g.third != 0),
         fourth: bare & (g.fourth != 0),
-        clash: clash((code != 5) & (floats == 1), 18, range),
+        clash: ((code != 5) & (floats == 1))
+            .then_some(Reason::FloatBit)
+            .or(range),
     }
 }
 
@@ -50,7 +45,7 @@ pub fn primitive_faults(g: Group) -> Faults
         second: g.second != 0,
         third: g.third != 0,
         fourth: g.fourth != 0,
-        clash: 0,
+        clash: None,
     }
 }
 
@@ -70,13 +65,15 @@ pub fn clip_faults(g: Group) -> Faults
     let bank = (g.second >> 28) % 4;
     let most = (g.third >> 28) % 16;
     let least = (g.third >> 12) % 16;
-    let minimum = clash(!((least == 0) | (least < most + 1)), 16, 0);
+    let minimum = (!((least == 0) | (least < most + 1))).then_some(Reason::PageMinimum);
     Faults {
         first: false,
         second: bank == 3,
         third: false,
         fourth: false,
-        clash: clash(page_limit(bank) < most, 15, minimum),
+        clash: (page_limit(bank) < most)
+            .then_some(Reason::PageMaximum)
+            .or(minimum),
     }
 }
 
@@ -89,6 +86,6 @@ pub fn raster_faults(g: Group) -> Faults
         second: false,
         third: false,
         fourth: false,
-        clash: clash(bits, 17, 0),
+        clash: bits.then_some(Reason::RasterBits),
     }
 }

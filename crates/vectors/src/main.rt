@@ -2,54 +2,78 @@
 // compares a digest of all that these give. A wrong digest, and so a damaged file, shows as a difference.
 #![tactic(auto)]
 
-ghost use Rattle.std.specs.Prelude.{◌<◌, ◌≤◌, length};
+use rules::{Accepted, NO_BIT, Refusal, Session};
+use stored::{Case, DIGEST, Runner, Tally, fill_buffer, mix, mix_number, mix_words, run_cases};
 
-use rules::{Answer, SessionAnswer};
-use stored::{
-    DIGEST, fill_buffer, least, mix, mix_number, mix_words, next_words, print_column, print_line,
-};
-
-// The words in front of a case: its tag, how many words and arguments it has, the image's seed and length, the lengths of
-// the record, output and PCI buffers, and the digest.
-const FRONT: usize = 9;
-
-// The functions. A case with tag 0 is a list, for the first five; with tag 1 it is a session; with tag 2 a list in a mode, its
-// argument, for the first two.
-const READER: usize = 0;
-
-const NORMALISER: usize = 1;
-
-const TO_PCI: usize = 2;
-
-const FROM_PCI: usize = 3;
-
-const MEASURER: usize = 4;
-
-const SCENES: usize = 5;
+#[derive(Clone, Copy)]
+enum Function {
+    Reader,
+    Normaliser,
+    ToPci,
+    FromPci,
+    Measurer,
+    Scenes,
+}
 
 const FUNCTIONS: usize = 6;
 
-// The tally has the verdicts of each function in turn, the cases, and the differences.
-const VERDICTS: usize = 33;
+// The functions of a list, and those of a list in a mode, its argument.
+static OF_A_LIST: [Function; 5] = [
+    Function::Reader,
+    Function::Normaliser,
+    Function::ToPci,
+    Function::FromPci,
+    Function::Measurer,
+];
 
-const CASES: usize = FUNCTIONS * VERDICTS;
+static IN_A_MODE: [Function; 2] = [Function::Reader, Function::Normaliser];
 
-const DIFFERENCES: usize = CASES + 1;
+static OF_A_SESSION: [Function; 1] = [Function::Scenes];
 
-const TALLY: usize = CASES + 2;
-
-// ---- digests
-
-fn mix_answer(digest: u32, a: Answer) -> u32 {
-    let front = mix_number(mix(digest, a.verdict), a.position);
-    let back = mix_number(
-        mix_number(mix_number(front, a.commands), a.records),
-        a.words,
-    );
-    mix(back, a.bit)
+// Those of a case, by its tag; of an unknown tag none.
+fn functions_of(tag: u32) -> &'static [Function] {
+    match tag {
+        0 => &OF_A_LIST,
+        1 => &OF_A_SESSION,
+        2 => &IN_A_MODE,
+        _ => &[],
+    }
 }
 
-// ---- a case
+// ---- what a case's functions are given
+
+// The image's seed and length, and the lengths of the record, output and PCI buffers.
+#[derive(Clone, Copy)]
+struct Sizes {
+    seed: u32,
+    image: u32,
+    records: u32,
+    output: u32,
+    pairs: u32,
+}
+
+impl From<[u32; 5]> for Sizes {
+    fn from([seed, image, records, output, pairs]: [u32; 5]) -> Sizes {
+        Sizes {
+            seed,
+            image,
+            records,
+            output,
+            pairs,
+        }
+    }
+}
+
+impl Sizes {
+    // The room of a function's buffer. Both directions of PCI writes have the same, and the measurer has none.
+    fn room(&self, function: Function) -> u32 {
+        match function {
+            Function::Reader | Function::Scenes => self.records,
+            Function::Normaliser => self.output,
+            _ => self.pairs,
+        }
+    }
+}
 
 fn xorshift(seed: u32) -> u32 {
     let a = seed ^ ((seed % 524288) * 8192);
@@ -66,207 +90,108 @@ fn fill_image(image: &mut [u32], seed: u32) {
     }
 }
 
-fn add(tally: &mut [u32; TALLY], i: usize) {
-    if i < TALLY {
-        tally[i] = tally[i].wrapping_add(1);
+// ---- what they give
+
+// The answer of a function that is not for several lists, as a session's.
+fn single(answer: Result<Accepted, Refusal>) -> Session {
+    match answer {
+        Ok(a) => Session {
+            commands: a.commands,
+            records: a.records,
+            words: a.words,
+            lists: 0,
+            end: Ok(a.position),
+        },
+        Err(refusal) => Session {
+            commands: 0,
+            records: 0,
+            words: 0,
+            lists: 0,
+            end: Err(refusal),
+        },
     }
 }
 
-// The answer of a function that is not for several lists.
-fn single(answer: Answer) -> SessionAnswer {
-    SessionAnswer { answer, lists: 0 }
+// A verdict, and the position and the bit beside it.
+fn verdict_of(end: Result<usize, Refusal>) -> (u32, usize, u32) {
+    match end {
+        Ok(position) => (0, position, NO_BIT),
+        Err(refusal) => (refusal.reason.number(), refusal.word, refusal.reason.bit()),
+    }
 }
 
-// The mode of a list's case; 0 where it has none.
-fn mode_of(arguments: &[u32]) -> u32 {
-    if arguments.len() == 0 {
-        0
-    } else {
-        arguments[0]
+// The six numbers of an answer.
+fn mix_answer(start: u32, s: &Session) -> u32 {
+    let (verdict, position, bit) = verdict_of(s.end);
+    let mut digest = mix(start, verdict);
+    for number in [position, s.commands, s.records, s.words] {
+        digest = mix_number(digest, number);
     }
+    mix(digest, bit)
 }
 
 // A function on the case's words: a list, with its mode among the arguments, pairs, or with the arguments as a table the lists
 // of a session.
-fn call(
-    function: usize,
-    words: &[u32],
-    arguments: &[u32],
-    image: &mut [u32],
-    buffer: &mut [u32],
-) -> SessionAnswer {
+fn call(function: Function, case: &Case<'_>, image: &mut [u32], buffer: &mut [u32]) -> Session {
+    let words = case.words;
+    let mode = case.arguments.first().copied().unwrap_or(0);
     match function {
-        READER => single(swap::read(words, image, buffer, mode_of(arguments))),
-        NORMALISER => single(swap::normalise(words, image, buffer, mode_of(arguments))),
-        TO_PCI => single(pci_writer::to_pci(words, image, buffer)),
-        FROM_PCI => single(pci_reader::from_pci(words, image, buffer)),
-        MEASURER => single(form::measure(words, image)),
-        _ => session::read_scenes(words, arguments, image, buffer),
-    }
-}
-
-// The digest of what it gives: the answer, with the lists applied of a session; the image where it is changed; the buffer
-// where there is one.
-fn digest_of(
-    function: usize,
-    words: &[u32],
-    arguments: &[u32],
-    image: &mut [u32],
-    buffer: &mut [u32],
-    start: u32,
-    tally: &mut [u32; TALLY],
-) -> u32
-    requires { function ≤ 5 }
-{
-    let s = call(function, words, arguments, image, buffer);
-    add(
-        tally,
-        function * VERDICTS + least(words::wide(s.answer.verdict), VERDICTS - 1),
-    );
-    let digest = mix_answer(start, s.answer);
-    match function {
-        READER => mix_words(mix_words(digest, image), buffer),
-        SCENES => mix_words(mix_words(mix_number(digest, s.lists), image), buffer),
-        MEASURER => digest,
-        _ => mix_words(digest, buffer),
-    }
-}
-
-// The same from the image and with the room that the case's front says. A length that is too large is cut, here and
-// below, so that the digest is wrong.
-fn run_function(
-    function: usize,
-    front: &[u32],
-    room: usize,
-    words: &[u32],
-    arguments: &[u32],
-    image: &mut [u32],
-    buffer: &mut [u32],
-    start: u32,
-    tally: &mut [u32; TALLY],
-) -> u32
-    requires { (function ≤ 5) × (room < 9) × (9 ≤ length front.now) }
-{
-    fill_image(image, front[3]);
-    fill_buffer(buffer);
-    let i = least(words::wide(front[4]), image.len());
-    let n = least(words::wide(front[room]), buffer.len());
-    digest_of(
-        function,
-        words,
-        arguments,
-        &mut image[..i],
-        &mut buffer[..n],
-        start,
-        tally,
-    )
-}
-
-// The digest of the functions before `end` on a list. Both directions of PCI writes have the same room, and the measurer has
-// none.
-fn run_list(
-    end: usize,
-    front: &[u32],
-    words: &[u32],
-    arguments: &[u32],
-    image: &mut [u32],
-    buffer: &mut [u32],
-    tally: &mut [u32; TALLY],
-) -> u32
-    requires { (end ≤ 5) × (9 ≤ length front.now) }
-{
-    let mut digest = DIGEST;
-    for k in READER..end {
-        let room = least(5 + k, 7);
-        digest = run_function(
-            k, front, room, words, arguments, image, buffer, digest, tally,
-        );
-    }
-    digest
-}
-
-// The digest of the functions that the tag is for; of an unknown tag, of none.
-fn run_case(
-    front: &[u32],
-    words: &[u32],
-    arguments: &[u32],
-    image: &mut [u32],
-    buffer: &mut [u32],
-    tally: &mut [u32; TALLY],
-) -> u32
-    requires { 9 ≤ length front.now }
-{
-    let tag = front[0];
-    match tag {
-        0 => run_list(SCENES, front, words, arguments, image, buffer, tally),
-        1 => run_function(
-            SCENES, front, 5, words, arguments, image, buffer, DIGEST, tally,
-        ),
-        2 => run_list(TO_PCI, front, words, arguments, image, buffer, tally),
-        _ => DIGEST,
+        Function::Reader => single(swap::read(words, image, buffer, mode)),
+        Function::Normaliser => single(swap::normalise(words, image, buffer, mode)),
+        Function::ToPci => single(pci_writer::to_pci(words, image, buffer)),
+        Function::FromPci => single(pci_reader::from_pci(words, image, buffer)),
+        Function::Measurer => single(form::measure(words, image)),
+        Function::Scenes => session::read_scenes(words, case.arguments, image, buffer),
     }
 }
 
 // ---- the program
 
-// The count of a verdict from each function.
-fn print_row(rt: HostRuntime, tally: &[u32; TALLY], verdict: usize)
-    requires { verdict < 33 }
-{
-    let _ = rt.print(verdict);
-    for f in 0..FUNCTIONS {
-        print_column(rt, tally[f * VERDICTS + verdict]);
-    }
-    let _ = rt.write_all(b"\n");
+// The image and the buffer that the functions are lent.
+#[derive(Drop)]
+struct Lent<'a> {
+    image: &'a mut [u32],
+    buffer: &'a mut [u32],
 }
 
-fn print(rt: HostRuntime, tally: &[u32; TALLY]) {
-    print_line(rt, b"vectors ", tally[CASES]);
-    print_line(rt, b"differences ", tally[DIFFERENCES]);
-    let _ = rt.write_all(b"verdict reader normaliser to_pci from_pci measure read_scenes\n");
-    for v in 0..VERDICTS {
-        print_row(rt, tally, v);
-    }
-}
-
-// The next case; false where there is none.
-fn next_case(
-    rt: HostRuntime,
-    words: &mut [u32],
-    arguments: &mut [u32],
-    image: &mut [u32],
-    buffer: &mut [u32],
-    tally: &mut [u32; TALLY],
-) -> bool {
-    let mut front = [0u32; FRONT];
-    if next_words(rt, &mut front) < FRONT {
-        return false;
-    }
-    let n = least(words::wide(front[1]), words.len());
-    next_words(rt, &mut words[..n]);
-    let m = least(words::wide(front[2]), arguments.len());
-    next_words(rt, &mut arguments[..m]);
-    let digest = run_case(&front, &words[..n], &arguments[..m], image, buffer, tally);
-    add(tally, CASES);
-    if digest != front[8] {
-        add(tally, DIFFERENCES);
-    }
-    true
-}
-
-// A file may have 65,536 cases.
-fn all(
-    rt: HostRuntime,
-    words: &mut [u32],
-    arguments: &mut [u32],
-    image: &mut [u32],
-    buffer: &mut [u32],
-    tally: &mut [u32; TALLY],
-) {
-    for _ in 0..65536 {
-        if !next_case(rt, words, arguments, image, buffer, tally) {
-            return;
+impl Lent<'_> {
+    // The digest with what a function gives: the answer, with the lists applied of a session; the image where it is changed; the
+    // buffer where there is one. A length that is too large is cut, so that the digest is wrong.
+    fn digest(
+        &mut self,
+        function: Function,
+        case: &Case<'_>,
+        sizes: &Sizes,
+        start: u32,
+        tally: &mut Tally<FUNCTIONS>,
+    ) -> u32 {
+        fill_image(self.image, sizes.seed);
+        fill_buffer(self.buffer);
+        let words = self.image.len().min(sizes.image as usize);
+        let image = &mut self.image[..words];
+        let room = self.buffer.len().min(sizes.room(function) as usize);
+        let buffer = &mut self.buffer[..room];
+        let s = call(function, case, image, buffer);
+        let (verdict, _, _) = verdict_of(s.end);
+        tally.add(function as usize, verdict);
+        let digest = mix_answer(start, &s);
+        match function {
+            Function::Reader => mix_words(mix_words(digest, image), buffer),
+            Function::Scenes => mix_words(mix_words(mix_number(digest, s.lists), image), buffer),
+            Function::Measurer => digest,
+            _ => mix_words(digest, buffer),
         }
+    }
+}
+
+impl Runner<5, FUNCTIONS> for Lent<'_> {
+    fn run(&mut self, case: &Case<'_>, sizes: &[u32; 5], tally: &mut Tally<FUNCTIONS>) -> u32 {
+        let sizes = Sizes::from(*sizes);
+        let mut digest = DIGEST;
+        for function in functions_of(case.tag) {
+            digest = self.digest(*function, case, &sizes, digest, tally);
+        }
+        digest
     }
 }
 
@@ -275,14 +200,14 @@ fn main(rt: HostRuntime) {
     let mut arguments = [0u32; 8200];
     let mut image = [0u32; 300];
     let mut buffer = [0u32; 8200];
-    let mut tally = [0u32; TALLY];
-    all(
+    let mut lent = Lent {
+        image: &mut image,
+        buffer: &mut buffer,
+    };
+    let tally = run_cases(rt, &mut words, &mut arguments, &mut lent);
+    tally.print(
         rt,
-        &mut words,
-        &mut arguments,
-        &mut image,
-        &mut buffer,
-        &mut tally,
+        "vectors",
+        "reader normaliser to_pci from_pci measure read_scenes",
     );
-    print(rt, &tally);
 }

@@ -6,7 +6,7 @@ use mathlib.Core.Bool.{true, cond}
 use mathlib.Core.List.{List, [], ◌∷◌}
 use lib.Dec.{eqb, ltb}
 use lib.ListN.{length, get_or, length-append}
-use Rattle.rules.specs.declared.Answer.{Answer}
+use Rattle.rules.specs.Verdict.{Answer}
 use Rattle.rules.specs.Word.{id_of}
 use Rattle.text.specs.Text.{ascii, digit}
 use Rattle.text.proofs.Numbers.{length-cond}
@@ -16,7 +16,7 @@ use Rattle.names.specs.Names.{commands, refusals, refusal_row}
 use Rattle.lines.specs.Lines.{counts_line}
 use Rattle.lines.proofs.Lengths.{counts_length, refused-length}
 use Rattle.rules.specs.Place.{start_of}
-use Rattle.verdict.specs.Verdict.{image_line, address_line, place_lines, bit_line, why_line, refusal_text, verdict_text}
+use Rattle.verdict.specs.Verdict.{image_line, address_line, place_lines, bit_line, refusal_text, verdict_text}
 
 -- a name has at most 21 bytes with its id, and the row of a refusal 160 with its number
 pub names_narrow : narrow 21 commands ≡ true
@@ -28,19 +28,19 @@ unfolding refusals line_of
 refusals_narrow = refl
 
 module _ (number p bit : ℕ) where
-  pub image-length : (bytes : ℕ) → length (image_line number bytes) ≤ 40
+  image-length : (bytes : ℕ) → length (image_line number bytes) ≤ 40
   unfolding image_line
   image-length bytes =
       length-cond (eqb number 2) (formatted [] (ascii "image %d bytes\n") (bytes ∷ [])) [] 40
       (omega (arith, formatted-length [] 0 refl (ascii "image %d bytes\n") (bytes ∷ []))) (omega arith)
 
-  pub address-length : (pairs : List ℕ) → length (address_line pairs p) ≤ 40
+  address-length : (pairs : List ℕ) → length (address_line pairs p) ≤ 40
   unfolding address_line
   address-length pairs =
       length-cond (ltb p (length pairs / 2)) (formatted [] (ascii "address %8\n") (get_or pairs (2 * p) 0 ∷ [])) [] 40
       (omega (arith, formatted-length [] 0 refl (ascii "address %8\n") (get_or pairs (2 * p) 0 ∷ []))) (omega arith)
 
-  pub place-length : (ws : List ℕ) → length (place_lines ws p) ≤ 200
+  place-length : (ws : List ℕ) → length (place_lines ws p) ≤ 200
   unfolding place_lines
   place-length ws =
       let start : ℕ = start_of ws p in
@@ -49,7 +49,7 @@ module _ (number p bit : ℕ) where
       length-cond (ltb p (length ws)) (formatted commands (ascii "word %8\ncommand %2%n at %d\n") ns) [] 200
       (omega (arith, formatted-length commands 21 names_narrow (ascii "word %8\ncommand %2%n at %d\n") ns)) (omega arith)
 
-  pub bit_length : length (bit_line bit) ≤ 40
+  bit_length : length (bit_line bit) ≤ 40
   unfolding bit_line
   bit_length =
       length-cond (eqb bit 32) [] (formatted [] (ascii "bit %d\n") (bit ∷ [])) 40
@@ -58,10 +58,7 @@ module _ (number p bit : ℕ) where
   row-bound : length (refusal_row number) ≤ 160
   row-bound = row-length 160 (cond (ltb number 10) 0x20 (digit (number / 10 % 10))) (digit (number % 10)) true refusals refusals_narrow
 
-  pub why-length : length (why_line number) ≤ 164
-  why-length = omega (arith, length-append (refusal_row number) (ascii "\n"), row-bound)
-
-pub refusal-length : (a : Answer) (ws pairs : List ℕ) (bytes : ℕ) → length (refusal_text a ws pairs bytes) ≤ 540
+refusal-length : (a : Answer) (ws pairs : List ℕ) (bytes : ℕ) → length (refusal_text a ws pairs bytes) ≤ 540
 unfolding refusal_text
 refusal-length a ws pairs bytes =
     let n : ℕ = a.verdict in

@@ -1,6 +1,6 @@
 -- The text of a verdict: the counts of an accepted list, or what a scene builder needs of a refusal.
 use Rattle.std.specs.Prelude.{ℕ, ◌*◌, ◌/◌, cond, List, [], ◌∷◌, ◌++◌, eqb, ltb, length, get_or}
-use Rattle.rules.specs.declared.Answer.{Answer}
+use Rattle.rules.specs.Verdict.{Answer}
 use Rattle.rules.specs.Word.{id_of}
 use Rattle.text.specs.Text.{ascii}
 use Rattle.format.specs.Format.{formatted}

@@ -1,12 +1,26 @@
-// The text of a verdict in a lent buffer. Each part goes from position `at` on, and the answer is the position behind it.
+// The text of a verdict.
 #![tactic(auto)]
 
 ghost use Rattle.std.specs.Prelude.{◌≡◌, ◌<◌, ◌≤◌, length};
-ghost use Rattle.text.specs.Puts.{Puts, Bounded};
+ghost use Rattle.text.specs.Puts.{Puts};
+ghost use Rattle.text.specs.Wrote.{Wrote};
 ghost use Rattle.rules.specs.Place.{start_of};
+ghost use Rattle.rules.specs.Returned.{answer_of};
+ghost use Rattle.verdict.specs.Numbers.{answer_with, numbers_of};
 ghost use Rattle.verdict.specs.Verdict.{image_line, address_line, place_lines, bit_line, why_line, refusal_text, verdict_text};
 
-use rules::{Answer, NO_BIT};
+use rules::{Accepted, NO_BIT, Refusal};
+use text::Writer;
+
+// The numbers of an answer, as a caller's words hold them: any, also such as no call gives.
+#[derive(Clone, Copy)]
+pub struct Numbers {
+    pub verdict: u32,
+    pub bit: u32,
+    pub position: usize,
+    pub commands: usize,
+    pub records: usize,
+}
 
 // ---- the command that a word stands in
 
@@ -16,8 +30,9 @@ fn start_of(list: &[u32], p: usize) -> usize
     ensures { (result ≤ p) × (result ≡ start_of list.now p) }
 {
     let mut at = 0;
+    // stays: it counts commands' sizes, each known at the command's first word, and no index
     while at < p {
-        let size = command::size_at(list, at);
+        let size = command::size_at::<source::List>(list, at);
         if p - at < size {
             return at;
         }
@@ -26,88 +41,121 @@ fn start_of(list: &[u32], p: usize) -> usize
     at
 }
 
-// ---- the lines of a refusal
+// ---- the lines of a refusal; what they go by stays as many parameters, as `put_verdict` has them, which README names
 
-fn put_image(text: &mut [u8], at: usize, number: usize, bytes: usize) -> usize
-    requires { Bounded at (image_line number bytes) }
-    ensures { Puts (image_line number bytes) text.old at text.new result }
+#[tactic(auto, unfolding(crate::specs::Verdict::image_line))]
+fn put_image(writer: &mut Writer<'_>, number: usize, bytes: usize)
+    ensures { Wrote (image_line number bytes) writer.old writer.new }
 {
-    if number != 2 {
-        return at;
+    if number == 2 {
+        format::put_format(writer, b"", b"image %d bytes\n", &[bytes]);
     }
-    format::put_format(text, at, b"", b"image %d bytes\n", &[bytes])
 }
 
-fn put_address(text: &mut [u8], at: usize, pairs: &[u32], p: usize) -> usize
-    requires { Bounded at (address_line pairs.now p) }
-    ensures { Puts (address_line pairs.now p) text.old at text.new result }
+#[tactic(auto, unfolding(crate::specs::Verdict::address_line))]
+fn put_address(writer: &mut Writer<'_>, pairs: &[u32], p: usize)
+    ensures { Wrote (address_line pairs.now p) writer.old writer.new }
 {
-    if pairs.len() / 2 <= p {
-        return at;
+    if p < pairs.len() / 2 {
+        let address = pairs[2 * p] as usize;
+        format::put_format(writer, b"", b"address %8\n", &[address]);
     }
-    let address = words::wide(pairs[2 * p]);
-    format::put_format(text, at, b"", b"address %8\n", &[address])
 }
 
-fn put_place(text: &mut [u8], at: usize, list: &[u32], p: usize) -> usize
-    requires { Bounded at (place_lines list.now p) }
-    ensures { Puts (place_lines list.now p) text.old at text.new result }
+#[tactic(auto, unfolding(crate::specs::Verdict::place_lines))]
+fn put_place(writer: &mut Writer<'_>, list: &[u32], p: usize)
+    ensures { Wrote (place_lines list.now p) writer.old writer.new }
 {
-    if list.len() <= p {
-        return at;
+    if p < list.len() {
+        let start = start_of(list, p);
+        let word = list[p] as usize;
+        let id = words::id_of(list[start]) as usize;
+        let format = b"word %8\ncommand %2%n at %d\n";
+        format::put_format(writer, names::commands(), format, &[word, id, id, start]);
     }
-    let start = start_of(list, p);
-    let word = words::wide(list[p]);
-    let id = words::id_of(list[start]) as usize;
-    let names = names::commands();
-    format::put_format(
-        text,
-        at,
-        &names,
-        b"word %8\ncommand %2%n at %d\n",
-        &[word, id, id, start],
-    )
 }
 
-fn put_bit(text: &mut [u8], at: usize, bit: u32) -> usize
-    requires { Bounded at (bit_line bit) }
-    ensures { Puts (bit_line bit) text.old at text.new result }
+#[tactic(auto, unfolding(crate::specs::Verdict::bit_line))]
+fn put_bit(writer: &mut Writer<'_>, bit: u32)
+    ensures { Wrote (bit_line bit) writer.old writer.new }
 {
-    if bit == NO_BIT {
-        return at;
+    if bit != NO_BIT {
+        format::put_format(writer, b"", b"bit %d\n", &[bit as usize]);
     }
-    format::put_format(text, at, b"", b"bit %d\n", &[words::wide(bit)])
 }
 
-fn put_why(text: &mut [u8], at: usize, number: usize) -> usize
-    requires { Bounded at (why_line number) }
-    ensures { Puts (why_line number) text.old at text.new result }
+fn put_why(writer: &mut Writer<'_>, number: usize)
+    ensures { Wrote (why_line number) writer.old writer.new }
 {
-    let at = text::put_all(text, at, b"why");
-    let at = names::put_refusal(text, at, number);
-    text::put_all(text, at, b"\n")
+    writer.put_all(b"why");
+    names::put_refusal(writer, number);
+    writer.put_all(b"\n");
 }
 
 // ---- the verdict
 
-fn put_refusal(text: &mut [u8], a: Answer, list: &[u32], pairs: &[u32], bytes: usize) -> usize
-    ensures { Puts (refusal_text a list.now pairs.now bytes) text.old 0 text.new result }
+fn put_refusal(writer: &mut Writer<'_>, n: Numbers, list: &[u32], pairs: &[u32], bytes: usize)
+    ensures { Wrote (refusal_text (answer_with n) list.now pairs.now bytes) writer.old writer.new }
 {
-    let number = words::wide(a.verdict);
-    let at = lines::put_refused(text, number, a.position);
-    let at = put_image(text, at, number, bytes);
-    let at = put_address(text, at, pairs, a.position);
-    let at = put_place(text, at, list, a.position);
-    let at = put_bit(text, at, a.bit);
-    put_why(text, at, number)
+    let number = n.verdict as usize;
+    lines::put_refused(writer, number, n.position);
+    put_image(writer, number, bytes);
+    put_address(writer, pairs, n.position);
+    put_place(writer, list, n.position);
+    put_bit(writer, n.bit);
+    put_why(writer, number);
+}
+
+#[tactic(auto, unfolding(crate::specs::Verdict::verdict_text))]
+fn put_answer(writer: &mut Writer<'_>, n: Numbers, list: &[u32], pairs: &[u32], bytes: usize)
+    ensures { Wrote (verdict_text (answer_with n) list.now pairs.now bytes) writer.old writer.new }
+{
+    if n.verdict == 0 {
+        lines::put_counts(writer, n.commands, n.records);
+    } else {
+        put_refusal(writer, n, list, pairs, bytes);
+    }
+}
+
+// The text of any answer, by its numbers.
+pub fn put_numbers(text: &mut [u8], n: Numbers, list: &[u32], pairs: &[u32], bytes: usize) -> usize
+    ensures { Puts (verdict_text (answer_with n) list.now pairs.now bytes) text.old 0 text.new result }
+{
+    let mut writer = Writer::new(text, 0);
+    put_answer(&mut writer, n, list, pairs, bytes);
+    writer.position()
+}
+
+fn numbers_of(answer: Result<Accepted, Refusal>) -> Numbers
+    ensures { result ≡ numbers_of answer }
+{
+    match answer {
+        Ok(a) => Numbers {
+            verdict: 0,
+            bit: NO_BIT,
+            position: a.position,
+            commands: a.commands,
+            records: a.records,
+        },
+        Err(f) => Numbers {
+            verdict: f.reason.number(),
+            bit: f.reason.bit(),
+            position: f.word,
+            commands: 0,
+            records: 0,
+        },
+    }
 }
 
 // The text of an answer on a list, or on pairs and the list that they carry, with an image of some bytes.
-pub fn put_verdict(text: &mut [u8], a: Answer, list: &[u32], pairs: &[u32], bytes: usize) -> usize
-    ensures { Puts (verdict_text a list.now pairs.now bytes) text.old 0 text.new result }
+pub fn put_verdict(
+    text: &mut [u8],
+    answer: Result<Accepted, Refusal>,
+    list: &[u32],
+    pairs: &[u32],
+    bytes: usize,
+) -> usize
+    ensures { Puts (verdict_text (answer_of answer) list.now pairs.now bytes) text.old 0 text.new result }
 {
-    if a.verdict != 0 {
-        return put_refusal(text, a, list, pairs, bytes);
-    }
-    lines::put_counts(text, 0, a.commands, a.records)
+    put_numbers(text, numbers_of(answer), list, pairs, bytes)
 }

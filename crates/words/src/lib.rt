@@ -13,16 +13,6 @@ pub fn fetch(list: &[u32], at: usize) -> u32
     list[at]
 }
 
-// The same, zero past the end.
-pub fn fetch_or_zero(list: &[u32], at: usize) -> u32
-    ensures { result ≡ get_or list.now at 0 }
-{
-    if at < list.len() {
-        return fetch(list, at);
-    }
-    0
-}
-
 pub fn id_of(word: u32) -> u8
     ensures { result ≡ id_of word }
 {
@@ -46,8 +36,20 @@ pub fn wide(word: u32) -> usize
 pub fn put(out: &mut [u32], n: usize, w: u32)
     ensures { out.new ≡ set out.old n w }
 {
+    // stays: tried, get_mut does not say what the buffer holds afterwards
     if n < out.len() {
         out[n] = w;
+    }
+}
+
+// Items from a position on.
+pub fn put_all<T: Copy, const N: usize>(out: &mut [T], at: usize, items: [T; N])
+    requires { at + N ≤ length out.old }
+    ensures { out.new ≡ sets out.old at items }
+{
+    // stays: tried, reading misses its bar by `copy_from_slice`, which compares addresses at each call: 1.06 of the time before
+    for (i, item) in items.iter().enumerate() {
+        out[at + i] = *item;
     }
 }
 
@@ -56,8 +58,5 @@ pub fn put4(out: &mut [u32], at: usize, a: u32, b: u32, c: u32, d: u32)
     requires { at + 4 ≤ length out.old }
     ensures { out.new ≡ sets out.old at (a ∷ b ∷ c ∷ d ∷ []) }
 {
-    out[at] = a;
-    out[at + 1] = b;
-    out[at + 2] = c;
-    out[at + 3] = d;
+    put_all(out, at, [a, b, c, d]);
 }

@@ -1,13 +1,9 @@
 use native.Mathlib.Omega.{arith}
-use mathlib.Core.Path.{ap, ◌∙◌}
-use Rattle.rules.specs.declared.Refusal.{Refusal}
-use Rattle.rules.specs.Values.{shift}
+use mathlib.Core.Path.{ap, sym, ◌∙◌}
+use Rattle.rules.specs.Returned.{numbered_refusal}
+use Rattle.values.specs.First.{refusal_or_none}
 use Rattle.faults.proofs.FirstFault.{value_near}
-use Rattle.command.specs.declared.Decoded.TheVariants.{Refused}
 use Rattle.command.proofs.refused_values.Goals as goal
 
-pub refused_fault-requires : goal.refused_fault-requires
-refused_fault-requires c = omega (arith, value_near c.args.id c.args.g _ c.value_fault.ensures, c.requires)
-
-pub returns : goal.returns
-returns c = c.refused_fault.ensures ∙ ap (λ (f : Refusal). Refused (shift c.args.at f)) c.value_fault.ensures
+pub behind-requires : goal.behind-requires
+behind-requires c = omega (arith, value_near c.args.id c.args.g (numbered_refusal c.unwrap.result) (ap refusal_or_none (sym c.unwrap.ensures) ∙ c.value_fault.ensures), c.requires.0)

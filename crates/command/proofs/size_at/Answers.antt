@@ -1,13 +1,11 @@
-use Prim.Native.Nat.{◌<◌}
 use native.Mathlib.Omega.{arith}
-use mathlib.Core.Path.{◌≡◌, ap, sym, ◌∙◌}
-use lib.ListN.{get_or}
+use mathlib.Core.Path.{ap, sym, ◌∙◌}
 use Rattle.rules.specs.Word.{id_of}
 use Rattle.command.proofs.Sizes.{size_at_lem}
 use Rattle.command.proofs.size_at.Goals as goal
 
 pub returns : goal.returns
-returns c = let ei : c.id_of.result ≡ id_of (get_or c.args.list.now c.args.at 0) = c.id_of.ensures ∙ ap id_of c.fetch-w.ensures in
-    let small : c.id_of.result < 256 = omega (arith, ei, c.shared_slice_known-1.given c.args.at) in
+returns g c =
     c.size.ensures
-    ∙ rw (c.header_of.ensures, c.fetch-w.ensures, c.fetch_or_zero.ensures, c.fetch_or_zero-2.ensures, c.fetch_or_zero-3.ensures) (sym (size_at_lem c.args.list.now c.args.at _ ei small))
+    ∙ rw (c.header_of.ensures, c.word-w.ensures, c.word_or_zero.ensures, c.word_or_zero-2.ensures, c.word_or_zero-3.ensures)
+    (sym (size_at_lem (g.S.Source.words c.args.buffer.now) c.args.at _ (c.id_of.ensures ∙ ap id_of c.word-w.ensures) (omega (arith, c.id_of.type_inv))))

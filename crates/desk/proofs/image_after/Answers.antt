@@ -1,11 +1,11 @@
 use Rattle.desk.specs.Desk.{perform}
-use Rattle.desk.proofs.Making.{image-refused, image-accepted}
+use Rattle.desk.proofs.Making.{image_refused}
 use Rattle.desk.proofs.image_after.Goals as goal
 
-pub returns-then-a-ne0 : goal.returns-then-a-ne0
+pub returns-in-Ok : goal.returns-in-Ok
 unfolding perform
-returns-then-a-ne0 c = rw (← c.read-a.ensures) (image-refused _ _ _ c.if-a-ne0.true c.finish.ensures)
+returns-in-Ok c = rw (← c.in-Ok.ensures) c.accept.ensures
 
-pub returns : goal.returns
+pub returns-in-Err : goal.returns-in-Err
 unfolding perform
-returns c = rw (← c.read-a.ensures) (image-accepted _ _ _ c.if-a-ne0.false c.finish_image.ensures)
+returns-in-Err c = rw (← c.in-Err.ensures) (image_refused _ _ _ (c.refuse.ensures _))

@@ -12,11 +12,11 @@ returns c out =
     let p = c.put_show-size.ensures.puts in
     let shown = append-nil (show_text a.list.now a.image.now) in
     record {
-      writes-is = refl;
       text-is = rw shown p.text-is;
       verdict-size = omega (arith, p.next-is);
       text-size = rw shown (omega (arith, p.next-is));
       out-is = refl;
+      unwritten = λ e. refl;
       out-size = refl;
       text-bound = rw shown (omega (arith, p.next-is, c.put_show-size.ensures.upper_bound));
       out-bound = omega arith;

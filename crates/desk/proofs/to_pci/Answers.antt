@@ -4,15 +4,16 @@ use Rattle.desk.specs.Desk.{perform}
 use Rattle.desk.proofs.Written.{fits_pairs}
 use Rattle.desk.proofs.to_pci.Goals as goal
 
-pub returns : goal.returns
+pub returns-in-Ok : goal.returns-in-Ok
 unfolding perform
-returns c = rw (← c.to_pci-a.ensures) c.finish.ensures
+returns-in-Ok c = rw (← c.in-Ok.ensures) c.accept.ensures
+
+pub returns-in-Err : goal.returns-in-Err
+unfolding perform
+returns-in-Err c = rw (← c.in-Err.ensures) (c.refuse.ensures _)
 
 pub slice_bounds-pairs-end : goal.slice_bounds-pairs-end
-slice_bounds-pairs-end c = (fits_pairs _ _ _ c.to_pci-a.ensures).inside
+slice_bounds-pairs-end c = (fits_pairs _ _ _ c.in-Ok.ensures).inside
 
-pub slice_bounds-finish-end-2 : goal.slice_bounds-finish-end-2
-slice_bounds-finish-end-2 c = sym (length-take-le _ _ (fits_pairs _ _ _ c.to_pci-a.ensures).inside)
-
-pub finish-requires : goal.finish-requires
-finish-requires c = (fits_pairs _ _ _ c.to_pci-a.ensures).few
+pub slice_bounds-accept-end-in-Ok : goal.slice_bounds-accept-end-in-Ok
+slice_bounds-accept-end-in-Ok c = sym (length-take-le _ _ (fits_pairs _ _ _ c.in-Ok.ensures).inside)

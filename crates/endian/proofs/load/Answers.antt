@@ -1,21 +1,20 @@
+use Prim.Native.Nat.{◌/◌, ◌<◌}
 use native.Mathlib.Omega.{arith}
-use mathlib.Core.Path.{refl, ap, sym, ◌∙◌}
+use mathlib.Core.Path.{refl, ◌∙◌}
 use lib.ListN.{length}
-use lib.Seq.{set_out, length-sets}
 use Rattle.endian.specs.Words.{words_of}
-use Rattle.endian.proofs.Words.{words_more, words-all}
+use Rattle.endian.proofs.Words.{chunk-word, words_more, words-all}
 use Rattle.endian.proofs.load.Goals as goal
-use Rattle.endian.proofs.load.Goals.{then-i-words, else-i-words}
 
 pub loop-i-init : goal.loop-i-init
 unfolding words_of
-loop-i-init c = (omega arith, refl)
+loop-i-init c = refl
 
 pub loop-i-preserved : goal.loop-i-preserved
-loop-i-preserved c = (omega arith, words_more _ _ _ c.loop-i-test.true c.loop-i.invariant.1 c.little_endian-word.ensures (elim c.if-i-words.branch [ then-i-words w ↦ w.words-is | else-i-words w ↦ w.words-is ∙ sym (set_out _ _ _ w.if-i-words.false) ]))
-
-pub shape_of-words : goal.shape_of-words
-shape_of-words c = ap length c.loop-i.invariant.1 ∙ simp length-sets
+loop-i-preserved c =
+    let n : c.loop-i.i < length c.args.input.now / 4 = omega (arith, c.as_chunks.ensures.front_len) in
+    let w = rw c.as_chunks.ensures.front at c.from_le_bytes.ensures in
+    words_more _ _ _ n c.loop-i.invariant (w ∙ chunk-word (length c.args.input.now / 4) c.loop-i.i c.args.input.now n (omega arith)) c.put.ensures
 
 pub returns : goal.returns
-returns c = words-all _ _ _ c.loop-i.invariant.0 c.loop-i-test.false c.loop-i.invariant.1
+returns c = words-all _ _ _ (omega (arith, c.as_chunks.ensures.front_len)) (omega (arith, c.as_chunks.ensures.front_len)) c.loop-i.invariant

@@ -24,4 +24,4 @@ returns-in-136 c = rw c.in-136.is (c.first-in-136.ensures ∙ ap first_of c.rast
 
 pub returns-in_default : goal.returns-in_default
 unfolding value_faults
-returns-in_default c = rw (ne_eqb c.args.id 0x40 (omega arith), ne_eqb c.args.id 0x48 (omega arith), ne_eqb c.args.id 0x84 (omega arith), ne_eqb c.args.id 0x88 (omega arith)) c.no_fault.ensures
+returns-in_default c = rw (ne_eqb c.args.id 0x40 (omega arith), ne_eqb c.args.id 0x48 (omega arith), ne_eqb c.args.id 0x84 (omega arith), ne_eqb c.args.id 0x88 (omega arith))

@@ -7,24 +7,24 @@ use Rattle.form.proofs.form.Goals as goal
 
 pub returns : goal.returns
 returns c =
-    let p = formed_end _ _ _ c.requires _ c.loop-d.invariant c.loop-d-test.false _ c.emit_settings.ensures in
+    let p = formed_end _ _ _ c.requires _ c.loop-draft.invariant c.loop-draft-test.false _ c.emit_settings.ensures.value in
     record { value = p.0; out_value = p.1 }
 
-pub loop-d-smaller : goal.loop-d-smaller
-loop-d-smaller c = let o = formed_on _ _ _ c.requires _ c.loop-d.invariant c.loop-d-test.true _ c.take_command-d.ensures in
-    omega (arith, o.0, c.loop-d-test.true)
+pub loop-draft-smaller : goal.loop-draft-smaller
+loop-draft-smaller c = let o = formed_on _ _ _ c.requires _ c.loop-draft.invariant c.loop-draft-test.true _ c.take_command.ensures in
+    omega (arith, o.0, c.loop-draft-test.true)
 
 pub shape_of-out : goal.shape_of-out
 shape_of-out c = ap length (returns c).out_value ∙ simp length-sets
 
-pub loop-d-init : goal.loop-d-init
-loop-d-init c = formed_start _ _ _ c.requires
+pub loop-draft-init : goal.loop-draft-init
+loop-draft-init c = rw (c.new-draft.ensures, c.new-memory.ensures.0, c.new-memory.ensures.1) (formed_start _ _ _ c.requires)
 
-pub take_command-d-requires : goal.take_command-d-requires
-take_command-d-requires c = formed_can_take _ _ _ c.requires _ c.loop-d.invariant c.loop-d-test.true
+pub take_command-requires : goal.take_command-requires
+take_command-requires c = formed_can_take _ _ _ c.requires _ c.loop-draft.invariant c.loop-draft-test.true
 
-pub loop-d-preserved : goal.loop-d-preserved
-loop-d-preserved c = (formed_on _ _ _ c.requires _ c.loop-d.invariant c.loop-d-test.true _ c.take_command-d.ensures).1
+pub loop-draft-preserved : goal.loop-draft-preserved
+loop-draft-preserved c = (formed_on _ _ _ c.requires _ c.loop-draft.invariant c.loop-draft-test.true _ c.take_command.ensures).1
 
 pub emit_settings-requires : goal.emit_settings-requires
-emit_settings-requires c = formed_can_end _ _ _ c.requires _ c.loop-d.invariant
+emit_settings-requires c = formed_can_end _ _ _ c.requires _ c.loop-draft.invariant

@@ -1,10 +1,11 @@
 use Prim.Native.Nat.{◌-◌}
 use lib.ListN.{length}
+use Rattle.draft.specs.Drafts.{made}
 use Rattle.form.proofs.Forming.{Formed}
 use Rattle.form.proofs.form.Given as goal
 
-abbrev pub invariant-loop-d : goal.invariant-loop-d
-invariant-loop-d l = Formed l.image l.list l.initial.out (record { draft = l.d; latest = l.latest; sent = l.sent; out = l.out })
+abbrev pub invariant-loop-draft : goal.invariant-loop-draft
+invariant-loop-draft l = Formed l.image l.list l.initial.out (made l.draft l.memory l.out)
 
-abbrev pub decreases-loop-d : goal.decreases-loop-d
-decreases-loop-d l = length l.list - l.d.at
+abbrev pub decreases-loop-draft : goal.decreases-loop-draft
+decreases-loop-draft l = length l.list - l.draft.at

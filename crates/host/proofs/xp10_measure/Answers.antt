@@ -1,8 +1,5 @@
-use Rattle.host.proofs.Call.{measure-fits, answer-result}
+use Rattle.host.proofs.Call.{measure_fits}
 use Rattle.host.proofs.xp10_measure.Goals as goal
 
-pub returns : goal.returns
-returns c = answer-result c.args.answer.now c.measure-a.ensures c.write.ensures
-
 pub write-requires : goal.write-requires
-write-requires c = measure-fits _ _ c.measure-a.ensures
+write-requires c = measure_fits _ _ _ c.measure.ensures

@@ -1,11 +1,14 @@
-use Prim.Native.Nat.{◌*◌, ◌-◌, ◌≤◌}
-use lib.ListN.{length, take}
-use Rattle.text.specs.Puts.{Puts}
+use lib.ListN.{length}
+use Rattle.text.specs.declared.Writer.{Writer}
+use Rattle.text.specs.Wrote.{Wrote}
 use Rattle.lines.specs.Lines.{record_lines}
 use Rattle.lines.proofs.put_records.Given as goal
 
-abbrev pub invariant-loop-i : goal.invariant-loop-i
-invariant-loop-i l = (4 * l.i ≤ length l.records) × Puts (record_lines l.table l.format (take (4 * l.i) l.records)) l.initial.text l.at-2 l.text l.at
+-- the lines of the records that are left complete those of all
+abbrev pub invariant-loop-rest : goal.invariant-loop-rest
+invariant-loop-rest l =
+    (w : Writer) → Wrote (record_lines l.table l.format l.rest) l.writer w
+    → Wrote (record_lines l.table l.format l.records) l.initial.writer w
 
-abbrev pub decreases-loop-i : goal.decreases-loop-i
-decreases-loop-i l = length l.records - l.i
+abbrev pub decreases-loop-rest : goal.decreases-loop-rest
+decreases-loop-rest l = length l.rest

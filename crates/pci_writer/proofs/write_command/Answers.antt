@@ -1,18 +1,18 @@
-use mathlib.Core.Path.{sym, ◌∙◌}
+use Prim.Native.Nat.{◌*◌}
+use mathlib.Core.Path.{◌≡◌, sym, ◌∙◌}
+use lib.Seq.{sets}
+use Rattle.rules.specs.Form.{read}
+use Rattle.rules.specs.Pci.{pairs_from}
 use Rattle.pci_writer.proofs.Writing.{command-put}
 use Rattle.pci_writer.proofs.write_command.Goals as goal
-
-pub returns-then-words-eq1 : goal.returns-then-words-eq1
-returns-then-words-eq1 c =
-    let e = command-put _ _ c.requires.0 _ c.fetch.ensures _ c.id_of-id.ensures 1 (sym c.size_at-words.ensures ∙ c.if-words-eq1.true) c.args.pairs.now _ c.write_single.ensures in
-    record { value = e.0; pairs_value = e.1 }
-
-pub returns-then-words-eq4 : goal.returns-then-words-eq4
-returns-then-words-eq4 c =
-    let e = command-put _ _ c.requires.0 _ c.fetch.ensures _ c.id_of-id.ensures 4 (sym c.size_at-words.ensures ∙ c.if-words-eq4.true) c.args.pairs.now _ c.write_group.ensures in
-    record { value = e.0; pairs_value = e.1 }
+use Rattle.pci_writer.proofs.write_command.Goals.{in-1, in-4, in_default}
 
 pub returns : goal.returns
-returns c =
-    let e = command-put _ _ c.requires.0 _ c.fetch.ensures _ c.id_of-id.ensures _ (sym c.size_at-words.ensures) c.args.pairs.now _ c.write_words.ensures in
+returns c = let a = c.args in
+    let put : c.match-words.pairs ≡ sets a.pairs.now (2 * a.at) (pairs_from c.id_of-id.result 0 (read a.list.now a.at c.size_at-words.result)) = elim c.match-words.branch [
+      | in-1 w ↦ w.pairs-is ∙ rw w.in-1.is w.write_words.ensures
+      | in-4 w ↦ w.pairs-is ∙ rw w.in-4.is w.write_words-in-4.ensures
+      | in_default w ↦ w.pairs-is ∙ w.write_words-in_default.ensures
+    ] in
+    let e = command-put _ _ c.requires.0 _ c.fetch.ensures _ c.id_of-id.ensures _ (sym c.size_at-words.ensures) a.pairs.now _ put in
     record { value = e.0; pairs_value = e.1 }

@@ -1,6 +1,6 @@
 use native.Mathlib.Omega.{arith}
 use Rattle.theory.proofs.Parse.{parse-accepted}
-use Rattle.pci_writer.proofs.Writing.{put-start, put-length, put-command, put_on, put_end}
+use Rattle.pci_writer.proofs.Writing.{put-start, put-command, put_on, put_end}
 use Rattle.pci_writer.proofs.write_list.Goals as goal
 
 pub write_command-at-requires : goal.write_command-at-requires
@@ -15,9 +15,6 @@ loop-at-preserved c = (put_on _ _ _ _ _ c.loop-at.invariant c.loop-at-test.true 
 
 pub loop-at-init : goal.loop-at-init
 loop-at-init c = put-start _ _ _ _ c.requires.0
-
-pub shape_of-pairs : goal.shape_of-pairs
-shape_of-pairs c = put-length _ _ _ _ _ c.loop-at.invariant
 
 pub returns : goal.returns
 returns c = put_end _ _ _ _ _ c.loop-at.invariant c.loop-at-test.false

@@ -20,7 +20,7 @@ overflow_add-result-2 c = omega (arith, c.requires.0.fits, ap length (is-work _ 
 
 pub returns : goal.returns
 returns c = record {
-  place = ap₂ {C = Place} (λ m k. record { at = c.args.at + m; written = c.args.written + k }) c.size_at-words.ensures (sym (ap length (is-work _ _ c.requires.0.command c.requires.1).record_is));
+  place = ap₂ {C = Place} (λ m k. record { at = c.args.p.at + m; written = c.args.p.written + k }) c.size_at-words.ensures (sym (ap length (is-work _ _ c.requires.0.command c.requires.1).record_is));
   image-is = c.leave_header.ensures;
   buffer-is = c.write_record.ensures;
 }

@@ -1,10 +1,7 @@
-use Prim.Native.Nat.{◌/◌, ◌-◌}
-use lib.ListN.{length}
+use Rattle.rules.specs.Session.{in_session}
+use Rattle.rules.specs.Returned.{session_answer_of}
 use Rattle.session.proofs.Standing.{Standing}
 use Rattle.session.proofs.read_scenes.Given as goal
 
-abbrev pub invariant-loop-s : goal.invariant-loop-s
-invariant-loop-s l = Standing l.words l.table l.initial.image l.initial.records (record { session = l.s; image = l.image; buffer = l.records })
-
-abbrev pub decreases-loop-s : goal.decreases-loop-s
-decreases-loop-s l = length l.table / 2 - l.s.lists
+abbrev pub invariant-loop-pair : goal.invariant-loop-pair
+invariant-loop-pair l = Standing l.words l.table l.initial.image l.initial.records l.pair-index (in_session (session_answer_of l.s) l.image l.records)

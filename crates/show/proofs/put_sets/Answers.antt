@@ -1,30 +1,22 @@
+use Prim.Native.Nat.{◌+◌, ◌-◌}
 use native.Mathlib.Omega.{arith}
-use mathlib.Core.List.{List, ◌++◌}
-use Prim.Native.Nat.{ℕ}
-use Rattle.text.specs.Text.{ascii}
-use Rattle.text.specs.Puts.{Bounded}
-use Rattle.text.proofs.Parts.{puts_then, puts-length, bounded_first, bounded_then}
+use mathlib.Core.Path.{◌≡◌, refl}
+use Rattle.text.proofs.Parts.{wrote_then, wrote_none}
 use Rattle.show.specs.Show.{sets_text}
 use Rattle.show.specs.Changes.{lines_from}
-use Rattle.show.proofs.Changes.{lines-all}
+use Rattle.show.proofs.Changes.{lines_more, lines-all}
 use Rattle.show.proofs.put_sets.Goals as goal
 
-abbrev head : List ℕ
-head = ascii "sets: id name before -> after\n"
+pub loop-id-preserved : goal.loop-id-preserved
+loop-id-preserved c w a = c.loop-id.invariant w (rw (lines_more c.args.before.now c.args.after.now c.loop-id.id (omega arith)) (wrote_then c.put_id.ensures a))
 
-by-id : {at : ℕ} (before after : List ℕ) → Bounded at (sets_text before after) → Bounded at (head ++ lines_from 256 0 before after)
-unfolding sets_text
-by-id before after b = rw (← lines-all before after) at b
-
-pub put_all-at-requires : goal.put_all-at-requires
-put_all-at-requires c = bounded_first head _ (by-id c.args.before.now c.args.after.now c.requires.1)
-
-pub put_changes-requires : goal.put_changes-requires
-put_changes-requires c = (c.requires.0, (omega arith, bounded_then head (lines_from 256 0 c.args.before.now c.args.after.now) (by-id c.args.before.now c.args.after.now c.requires.1) c.put_all-at.ensures))
-
-pub returns : goal.returns
-unfolding sets_text
-returns c = rw (← lines-all c.args.before.now c.args.after.now) (puts_then c.put_all-at.ensures c.put_changes.ensures)
-
-pub shape_of-text : goal.shape_of-text
-shape_of-text c = puts-length (returns c)
+pub returns-2 : goal.returns-2
+unfolding sets_text lines_from
+returns-2 c =
+    let b = c.args.before.now in
+    let a = c.args.after.now in
+    let last : c.loop-id.id ≡ 255 = omega arith in
+    let none : 256 - (c.loop-id.id + 1) ≡ 0 = omega arith in
+    rw (← lines-all b a)
+    (wrote_then c.put_all.ensures
+    (c.loop-id.invariant _ (rw (lines_more b a c.loop-id.id (omega arith)) (wrote_then c.put_id.ensures (rw none (wrote_none refl))))))

@@ -5,4 +5,4 @@ use Rattle.stored.specs.Digest.{counting}
 use Rattle.stored.proofs.fill_buffer.Given as goal
 
 abbrev pub invariant-loop-word : goal.invariant-loop-word
-invariant-loop-word l = (length l.buffer ≡ length l.initial.buffer) × (sets l.buffer l.word-index (counting l.w (length l.initial.buffer - l.word-index)) ≡ counting 2768240640 (length l.initial.buffer))
+invariant-loop-word l = sets l.buffer l.word-index (counting l.w (length l.initial.buffer - l.word-index)) ≡ counting 2768240640 (length l.initial.buffer)

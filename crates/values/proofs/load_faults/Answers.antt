@@ -4,4 +4,4 @@ use Rattle.values.proofs.load_faults.Goals as goal
 
 pub returns : goal.returns
 unfolding load_broken
-returns c = rw (c.clash.ensures, c.clash-range.ensures, div-one)
+returns c = rw (c.or.ensures, c.then_some.ensures, c.then_some-range.ensures, div-one)

@@ -3,4 +3,4 @@ use Rattle.values.proofs.raster_faults.Goals as goal
 
 pub returns : goal.returns
 unfolding raster_broken
-returns c = rw c.clash.ensures
+returns c = rw c.then_some.ensures

@@ -1,16 +1,22 @@
-use native.Mathlib.Omega.{arith}
-use borrow.Author.Tests.{eq-eqb, ne_eqb}
-use Rattle.lines.proofs.Lengths.{counts_length}
+use mathlib.Core.Path.{◌≡◌, refl, ap, subst, ◌∙◌}
+use mathlib.Core.List.{List}
+use Prim.Native.Nat.{ℕ}
+use Rattle.std.specs.Prelude.{Result, Ok, Err}
+use Rattle.rules.specs.declared.Accepted.{Accepted}
+use Rattle.rules.specs.declared.Refusal.{Refusal}
+use Rattle.rules.specs.Returned.{answer_of}
+use Rattle.text.specs.Puts.{Puts}
+use Rattle.verdict.specs.Numbers.{answer_with, numbers_of}
 use Rattle.verdict.specs.Verdict.{verdict_text}
 use Rattle.verdict.proofs.put_verdict.Goals as goal
 
-pub returns-then-a-ne0 : goal.returns-then-a-ne0
+-- the text is that of the numbers
+same-text : (r : Result Accepted Refusal) (ws pairs : List ℕ) (bytes : ℕ) → verdict_text (answer_with (numbers_of r)) ws pairs bytes ≡ verdict_text (answer_of r) ws pairs bytes
 unfolding verdict_text
-returns-then-a-ne0 c = rw (ne_eqb _ 0 c.if-a-ne0.true) c.put_refusal.ensures
+same-text (Ok a) ws pairs bytes = refl
+same-text (Err f) ws pairs bytes = refl
 
 pub returns : goal.returns
-unfolding verdict_text
-returns c = rw (eq-eqb _ 0 c.if-a-ne0.false) c.put_counts.ensures
-
-pub put_counts-requires : goal.put_counts-requires
-put_counts-requires c = record { bound = omega (arith, counts_length c.args.a.commands c.args.a.records) }
+returns c = let a = c.args in
+    let e = ap (λ n. verdict_text (answer_with n) a.list.now a.pairs.now a.bytes) c.numbers_of.ensures ∙ same-text a.answer a.list.now a.pairs.now a.bytes in
+    rw (← e) c.put_numbers.ensures

@@ -1,5 +1,5 @@
 use native.Mathlib.Omega.{arith}
-use mathlib.Core.Path.{refl, sym, ◌∙◌}
+use mathlib.Core.Path.{sym, ◌∙◌}
 use Rattle.command.proofs.Sizes.{size-pos}
 use Rattle.verdict.proofs.Start.{start_here, start-inside, start_beyond}
 use Rattle.verdict.proofs.start_of.Goals as goal
@@ -12,15 +12,6 @@ loop-at-preserved c = (omega arith, sym (start_beyond _ _ _ c.requires _ c.size_
 
 pub returns : goal.returns
 returns c = (omega arith, sym (start_here _ _ _ c.requires (omega arith)) ∙ c.loop-at.invariant.1)
-
-pub loop-at-init : goal.loop-at-init
-loop-at-init c = (omega arith, refl)
-
-pub size_at-size-requires : goal.size_at-size-requires
-size_at-size-requires c = omega (arith, c.requires)
-
-pub overflow_add-at : goal.overflow_add-at
-overflow_add-at c = omega (arith, c.requires)
 
 pub loop-at-smaller : goal.loop-at-smaller
 loop-at-smaller c = omega (arith, size-pos c.args.list.now c.loop-at.at _ c.size_at-size.ensures)

@@ -1,0 +1,8 @@
+use mathlib.Core.Path.{◌≡◌}
+use Rattle.rules.specs.Form.{read}
+use Rattle.pairs.specs.View.{addresses}
+use Rattle.placed.specs.View.{placed}
+use Rattle.placed.proofs.all_placed.Given as goal
+
+abbrev pub invariant-loop-i : goal.invariant-loop-i
+invariant-loop-i l = l.right ≡ placed l.id 0 (read (addresses l.pairs) l.at l.i)
