@@ -9,7 +9,6 @@ use lib.ListN.{length, length-append}
 use lib.Seq.{sets}
 use Rattle.std.specs.Prelude.{Ok, Err, Some, None}
 use Rattle.rules.specs.declared.Reason.{Reason}
-use Rattle.rules.specs.declared.Reason.TheVariants as reason
 use Rattle.rules.specs.declared.Refusal.{Refusal as Returned}
 use Rattle.rules.specs.declared.Accepted.{Accepted}
 use Rattle.rules.specs.Returned.{number_of, answer_of}
@@ -27,30 +26,7 @@ use Rattle.desk.specs.Desk.{make}
 use Rattle.desk.specs.Makes.{Makes}
 
 refused-number : (r : Reason) → eqb (number_of r) 0 ≡ false
-refused-number reason.TooManyWords = refl
-refused-number reason.ImageSize = refl
-refused-number reason.UnknownId = refl
-refused-number reason.PciOnly = refl
-refused-number reason.GroupCut = refl
-refused-number (reason.UndefinedBit bit) = refl
-refused-number reason.IllegalValue = refl
-refused-number reason.PayloadCut = refl
-refused-number reason.NoBegin = refl
-refused-number reason.NoRoom = refl
-refused-number reason.BrokenWord = refl
-refused-number reason.WrongAddress = refl
-refused-number reason.CommandCut = refl
-refused-number reason.PageMaximum = refl
-refused-number reason.PageMinimum = refl
-refused-number reason.RasterBits = refl
-refused-number reason.FloatBit = refl
-refused-number reason.PlaneRange = refl
-refused-number reason.OutsideBuffer = refl
-refused-number reason.NoSuchMode = refl
-refused-number reason.BadContents = refl
-refused-number reason.NumbersFall = refl
-refused-number reason.BodiesMisplaced = refl
-refused-number reason.NoScene = refl
+refused-number r = grind arith
 
 abbrev written_line : List ℕ → List ℕ
 written_line words = formatted [] (ascii "written %d words\n") (length words ∷ [])
