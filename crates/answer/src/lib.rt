@@ -1,5 +1,5 @@
-// What a call returns, as words for a caller, as many as there is room for. Each function tells the verdict too: 0, or the
-// number of a refusal.
+// Answers as words for a caller, as many as there is room for: any numbers, also such as no call gives. Each function tells the
+// verdict too.
 #![tactic(auto)]
 
 ghost use Rattle.std.specs.Prelude.{◌≡◌, ◌^◌, ◌<◌};
@@ -7,91 +7,55 @@ ghost use Rattle.std.proofs.lemmas.List.Edits.{sets};
 ghost use Rattle.rules.specs.Answer.{answer_words};
 ghost use Rattle.rules.specs.Session.{session_words};
 ghost use Rattle.rules.specs.Book.{place_words, book_answer_words};
-ghost use Rattle.rules.specs.Returned.{answer_of, session_end, session_answer_of, scene_answer_of, book_answer_of};
+ghost use Rattle.rules.specs.Returned.{answer_with, session_with, scene_with, book_with};
 ghost use Rattle.answer.specs.FitsWords.{FitsWords};
 
-use rules::{Accepted, NO_BIT, Reason, Refusal, Scene, Session};
+use rules::{Answer, BookAnswer, SceneAnswer, SessionAnswer};
 use words::put;
 
-// The six numbers of an answer, by how the call ended: at a position, or refused.
-// stays: `FitsWords` is required here and in the two below, since `list::accepted` makes an `Accepted` of any numbers
-fn numbers(end: Result<usize, Refusal>, commands: usize, records: usize, words: usize) -> [u32; 6]
-    requires { FitsWords (session_end commands records words end) }
-    ensures { result ≡ answer_words (session_end commands records words end) }
-{
-    let (verdict, position, bit) = match end {
-        Ok(position) => (0, position, NO_BIT),
-        Err(f) => (f.reason.number(), f.word, f.reason.bit()),
-    };
-    [
-        verdict,
-        position as u32,
-        commands as u32,
-        records as u32,
-        words as u32,
-        bit,
-    ]
-}
-
-fn put_all(words: &mut [u32], numbers: &[u32])
-    ensures { words.new ≡ sets words.old 0 numbers.now }
-{
-    for (i, number) in numbers.iter().enumerate() {
-        put(words, i, *number);
-    }
-}
-
 // The six numbers of an answer.
-pub fn write(outcome: Result<Accepted, Refusal>, answer: &mut [u32]) -> u32
-    requires { FitsWords (answer_of outcome) }
-    ensures numbers { answer.new ≡ sets answer.old 0 (answer_words (answer_of outcome)) }
-    ensures verdict { result ≡ (answer_of outcome).verdict }
+pub fn write(a: Answer, answer: &mut [u32]) -> u32
+    requires { FitsWords (answer_with a) }
+    ensures numbers { answer.new ≡ sets answer.old 0 (answer_words (answer_with a)) }
+    ensures verdict { result ≡ a.verdict }
 {
-    let six = match outcome {
-        Ok(a) => numbers(Ok(a.position), a.commands, a.records, a.words),
-        Err(f) => numbers(Err(f), 0, 0, 0),
-    };
-    put_all(answer, &six);
-    six[0]
+    put(answer, 0, a.verdict);
+    put(answer, 1, a.position as u32);
+    put(answer, 2, a.commands as u32);
+    put(answer, 3, a.records as u32);
+    put(answer, 4, a.words as u32);
+    put(answer, 5, a.bit);
+    a.verdict
 }
 
 // The seven of a session: the lists applied are the last.
-pub fn write_session(s: Session, answer: &mut [u32]) -> u32
-    requires { FitsWords (session_answer_of s).answer × (s.lists < 2 ^ 32) }
-    ensures numbers { answer.new ≡ sets answer.old 0 (session_words (session_answer_of s)) }
-    ensures verdict { result ≡ (session_answer_of s).answer.verdict }
+pub fn write_session(s: SessionAnswer, answer: &mut [u32]) -> u32
+    requires { FitsWords (answer_with s.answer) × (s.lists < 2 ^ 32) }
+    ensures numbers { answer.new ≡ sets answer.old 0 (session_words (session_with s)) }
+    ensures verdict { result ≡ s.answer.verdict }
 {
-    let six = numbers(s.end, s.commands, s.records, s.words);
-    put_all(answer, &six);
+    write(s.answer, answer);
     put(answer, 6, s.lists as u32);
-    six[0]
+    s.answer.verdict
 }
 
-// Where a scene is in its book: the start and the length, 0 where there is none.
-pub fn write_place(found: Result<Scene, Reason>, place: &mut [u32]) -> u32
-    ensures numbers { place.new ≡ sets place.old 0 (place_words (scene_answer_of found)) }
-    ensures verdict { result ≡ (scene_answer_of found).verdict }
+// Where a scene is in its book: the start and the length.
+pub fn write_place(a: SceneAnswer, place: &mut [u32]) -> u32
+    ensures numbers { place.new ≡ sets place.old 0 (place_words (scene_with a)) }
+    ensures verdict { result ≡ a.verdict }
 {
-    let (verdict, start, length) = match found {
-        Ok(scene) => (0, scene.start, scene.length),
-        Err(reason) => (reason.number(), 0, 0),
-    };
-    put(place, 0, start);
-    put(place, 1, length);
-    verdict
+    put(place, 0, a.start);
+    put(place, 1, a.length);
+    a.verdict
 }
 
 // The verdict of a book's writer, and the words written.
-pub fn write_book_answer(written: Result<usize, Reason>, answer: &mut [u32]) -> u32
-    requires { (book_answer_of written).words < 2 ^ 32 }
-    ensures numbers { answer.new ≡ sets answer.old 0 (book_answer_words (book_answer_of written)) }
-    ensures verdict { result ≡ (book_answer_of written).verdict }
+pub fn write_book_answer(a: BookAnswer, answer: &mut [u32]) -> u32
+    requires { a.words < 2 ^ 32 }
+    ensures numbers { answer.new ≡ sets answer.old 0 (book_answer_words (book_with a)) }
+    ensures verdict { result ≡ a.verdict }
 {
-    let (verdict, words) = match written {
-        Ok(words) => (0, words),
-        Err(reason) => (reason.number(), 0),
-    };
-    put(answer, 0, verdict);
-    put(answer, 1, words as u32);
-    verdict
+    put(answer, 0, a.verdict);
+    put(answer, 1, a.words as u32);
+    a.verdict
 }

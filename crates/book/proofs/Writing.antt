@@ -1,7 +1,6 @@
 -- The writer: what its loop leaves in the book.
-use Rattle.std.proofs.Common.{◌≡◌, ℕ, suc, ◌+◌, ◌-◌, ◌*◌, ◌≤◌, ◌<◌, true, List, [], ◌∷◌, length, get_or, take, drop, set, refl, ap, sym, ◌∙◌, arith, length-append, append_assoc, drop_of_length-le}
-use lib.Seq.{sets, sets-eq, length-sets, set_comm, drop-drop}
-use borrow.Rule.Slice.PartMut.{put_mid}
+use Rattle.std.proofs.Common.{◌≡◌, ℕ, suc, ◌+◌, ◌-◌, ◌*◌, ◌≤◌, ◌<◌, true, List, [], ◌∷◌, length, get_or, take, drop, set, refl, ap, sym, ◌∙◌, arith, length-append, drop_of_length-le}
+use lib.Seq.{sets, set_comm}
 use Rattle.rules.specs.declared.Entry.{Entry}
 use Rattle.rules.specs.Book.{body_in, bodies_at, scenes_in, contents_of, bodies, in_buffer}
 use Rattle.theory.proofs.Image.{sets_append}
@@ -12,22 +11,14 @@ use Rattle.book.proofs.Entries.{entries_length, entries-on}
 
 -- ---- one scene
 
-pub put_mid-sets : (xs ys : List ℕ) (at end : ℕ) → at + length ys ≡ end → end ≤ length xs → put_mid at (end - at) xs ys ≡ sets xs at ys
-put_mid-sets xs ys at end e h =
-    let d : end - at ≡ length ys = omega arith in
-    let l : at + length ys ≤ length xs = omega arith in
-    rw (d, drop-drop (length ys) at xs) (sym (append_assoc (take at xs) ys (drop (at + length ys) xs)) ∙ sym (sets-eq ys xs at l))
-
 -- the three words of an entry, then the body
 pub scene-put : (ws book : List ℕ) (i at : ℕ) (e : Entry) → CanPut e ws i at book → {body : List ℕ} → body ≡ take (e.start + e.length - e.start) (drop e.start ws)
-    → put_mid at (at + e.length - at) (set (set (set book i e.number) (i + 1) at) (i + 2) e.length) body ≡ with_scene ws i at e book
+    → sets (set (set (set book i e.number) (i + 1) at) (i + 2) e.length) at body ≡ with_scene ws i at e book
 scene-put ws book i at e can is =
     let m : e.start + e.length - e.start ≡ e.length = omega arith in
     let one : i + 1 ≡ suc i = omega arith in
     let two : i + 2 ≡ suc (suc i) = omega arith in
-    let long : length (sets book i (e.number ∷ at ∷ e.length ∷ [])) ≡ length book = length-sets book i (e.number ∷ at ∷ e.length ∷ []) in
-    rw (is, m, one, two) (put_mid-sets (sets book i (e.number ∷ at ∷ e.length ∷ [])) (body_in ws e) at (at + e.length)
-    (omega (arith, body-length ws e can.inside)) (omega (arith, long, can.body)))
+    rw (is, m, one, two) refl
 
 -- ---- all scenes, one after the other
 
@@ -67,7 +58,7 @@ bodies-length ws (e ∷ es) h =
     let p = inside (length ws) e es h in
     omega (arith, length-append (body_in ws e) (bodies (scenes_in ws es)), body-length ws e p.inside, bodies-length ws es p.rest)
 
-total-few : (words : ℕ) (es : List Entry) → in_buffer words es ≡ true → total es ≤ 4096 * length es
+pub total-few : (words : ℕ) (es : List Entry) → in_buffer words es ≡ true → total es ≤ 4096 * length es
 total-few words [] h = omega arith
 total-few words (e ∷ es) h = let p = inside words e es h in omega (arith, p.short, total-few words es p.rest)
 

@@ -1,12 +1,10 @@
 -- What the loops over the entries of a table stand on.
 use Rattle.std.specs.Prelude.{ℕ, ◌+◌, ◌^◌, ◌≤◌, ◌<◌, ◌≡◌, Bool, true, cond, List, [], ◌∷◌, length, get_or, Result, Ok, Err}
 use Rattle.std.proofs.lemmas.List.Edits.{sets}
-use denote.Ref.{Bor}
 use Rattle.rules.specs.declared.Entry.{Entry}
 use Rattle.rules.specs.declared.Reason.{Reason}
 use Rattle.rules.specs.declared.Reason.TheVariants.{NumbersFall, BodiesMisplaced}
-use Rattle.rules.specs.Book.{body_in, bodies_at, scenes_in, book_of, in_buffer, Told, found}
-use Rattle.rules.specs.Returned.{number_of}
+use Rattle.rules.specs.Book.{body_in, bodies_at, scenes_in, book_of, in_buffer}
 
 -- an entry by its three words
 abbrev pub entry_of : List ℕ → Entry
@@ -19,11 +17,6 @@ entries_of (ws ∷ rest) = entry_of ws ∷ entries_of rest
 -- the fault of contents whose numbers rise or not and whose bodies are in place or not
 abbrev pub checked : Bool → Bool → Result (Unit {0}) Reason
 checked rises placed = cond rises (cond placed (Ok tt) (Err BodiesMisplaced)) (Err NumbersFall)
-
--- what a caller is told by a stretch or a refusal
-abbrev pub told_of : Result (Bor (List ℕ)) Reason → Told
-told_of (Ok stretch) = found stretch.now
-told_of (Err reason) = record { verdict = number_of reason; words = [] }
 
 -- the words of all bodies
 abbrev pub total : List Entry → ℕ

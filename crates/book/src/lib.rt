@@ -4,10 +4,11 @@
 #![tactic(auto)]
 
 ghost use Rattle.std.specs.Prelude.{◌≡◌, true, false, cond, ◌||◌, ltb, ◌+◌, ◌*◌, ◌^◌, ◌≤◌, ◌<◌, length, MatchResult};
+ghost use Rattle.std.proofs.lemmas.List.Edits.{sets};
 ghost use Rattle.rules.specs.Book.{book_outcome, entries, rising, in_place, bodies_at, asked, finding_scene, look_up, stretch};
 ghost use Rattle.rules.specs.Book.{in_buffer, writing_book};
-ghost use Rattle.rules.specs.Returned.{scene_answer_of, book_answer_of};
-ghost use Rattle.book.specs.Tables.{entry_of, entries_of, checked, told_of, book_size, size_or_fault, CanWrite, CanPut, with_scene, with_book};
+ghost use Rattle.rules.specs.Returned.{scene_answer_of, told_of, book_answer_of};
+ghost use Rattle.book.specs.Tables.{entry_of, entries_of, checked, book_size, size_or_fault, CanWrite, CanPut, with_scene, with_book};
 
 use rules::{Entry, Reason, Scene};
 
@@ -189,6 +190,18 @@ pub fn scene<'a>(book: &'a [u32], number: u32, verdict: &mut u32) -> &'a [u32]
 
 // ---- the writer
 
+// Words that have room from a position on. Stays: with `copy_from_slice` the static library asks for `memmove`, and short scenes
+// take 1.2 to 1.8 of the time.
+#[tactic(auto, using(theory::proofs::Image::put_more))]
+fn copy(words: &[u32], out: &mut [u32], at: usize)
+    requires { at + length words.now ≤ length out.old }
+    ensures { out.new ≡ sets out.old at words.now }
+{
+    for (i, word) in words.iter().enumerate() {
+        out[at + i] = *word;
+    }
+}
+
 // A scene's entry at word i of the book, and its body at a word. The answer is where the next one goes.
 fn write_scene(e: Entry, words: &[u32], i: usize, at: usize, book: &mut [u32]) -> usize
     requires { CanPut e words.now i at book.old }
@@ -198,7 +211,7 @@ fn write_scene(e: Entry, words: &[u32], i: usize, at: usize, book: &mut [u32]) -
     book[i] = e.number;
     book[i + 1] = at as u32;
     book[i + 2] = e.length as u32;
-    book[at..at + e.length].copy_from_slice(&words[e.start..e.start + e.length]);
+    copy(&words[e.start..e.start + e.length], book, at);
     at + e.length
 }
 

@@ -8,7 +8,7 @@ ghost use Rattle.rules.specs.Values.{shift};
 ghost use Rattle.rules.specs.Decode.{unknown};
 ghost use Rattle.rules.specs.Returned.{number_of, bit_of, numbered_refusal, numbered};
 ghost use Rattle.table.specs.Ids.{group_id};
-ghost use Rattle.table.specs.Tables.{more};
+ghost use Rattle.table.specs.Tables.{group, more};
 ghost use Rattle.values.specs.First.{found};
 ghost use Rattle.faults.specs.Faults.{value_fault};
 ghost use Rattle.command.specs.View.{size_at, single_of, group_of, if_legal, KnownAt, Met, placed_group};
@@ -104,11 +104,18 @@ pub fn group_command(words: usize, row: u8) -> Command
     }
 }
 
-// The first rule on values that a group breaks: refusals 7 and 15 to 19.
-fn refused_values(at: usize, id: u8, g: Group) -> Refusal
-    requires { (at + 4 < 2 ^ 64) × (found (value_fault id g) ≡ true) }
-    ensures { numbered_refusal result ≡ shift at (value_fault id g) }
+// The first rule on values that a group breaks: refusals 7 and 15 to 19. Its words come one by one: as a group they were stored for
+// each command that is decoded, for the sake of a call that only a refusal makes.
+fn refused_values(at: usize, id: u8, header: u32, second: u32, third: u32, fourth: u32) -> Refusal
+    requires { (at + 4 < 2 ^ 64) × (found (value_fault id (group header second third fourth)) ≡ true) }
+    ensures { numbered_refusal result ≡ shift at (value_fault id (group header second third fourth)) }
 {
+    let g = Group {
+        header,
+        second,
+        third,
+        fourth,
+    };
     faults::value_fault(id, g).unwrap().behind(at)
 }
 
@@ -119,7 +126,7 @@ pub fn primitive_command(at: usize, row: u8, g: Group) -> Result<Command, Refusa
     ensures { numbered result ≡ if_legal at 0x48 g (Ok (group_of 4 row)) }
 {
     if faults::any(values::primitive_faults(g)) {
-        return Err(refused_values(at, 0x48, g));
+        return Err(refused_values(at, 0x48, g.header, g.second, g.third, g.fourth));
     }
     Ok(group_command(4, row))
 }
@@ -130,7 +137,7 @@ pub fn other_command(at: usize, id: u8, row: u8, g: Group) -> Result<Command, Re
     ensures { numbered result ≡ if_legal at id g (Ok (group_of 4 row)) }
 {
     if faults::bad_other(id, g) {
-        return Err(refused_values(at, id, g));
+        return Err(refused_values(at, id, g.header, g.second, g.third, g.fourth));
     }
     Ok(group_command(4, row))
 }
@@ -141,7 +148,7 @@ fn load_command<S: Source>(buffer: &[u32], at: usize, row: u8, g: Group) -> Resu
     ensures { numbered result ≡ if_legal at 0x40 g (placed_group S.words S.placed buffer.now at 0x40 (payload 0x40 g.header (more g)) row) }
 {
     if faults::any(values::load_faults(g)) {
-        return Err(refused_values(at, 0x40, g));
+        return Err(refused_values(at, 0x40, g.header, g.second, g.third, g.fourth));
     }
     let more = payload(0x40, g);
     if !S::payload_in_place(buffer, at + 4, more, 0x40) {
@@ -202,7 +209,8 @@ pub fn decode_group<S: Source>(
     }
     let g = source::group_at::<S>(buffer, at);
     if faults::undefined_bits(tables, row, g) {
-        return Err(faults::undefined_fault(tables, row, g).unwrap().behind(at));
+        let fault = faults::undefined_fault(tables, row, g.header, g.second, g.third, g.fourth);
+        return Err(fault.unwrap().behind(at));
     }
     if !S::group_in_place(buffer, at, id) {
         return Err(Refusal {

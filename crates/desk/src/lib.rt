@@ -62,7 +62,7 @@ pub struct Sizes {
 fn refuse(f: Refusal, list: &[u32], pairs: &[u32], bytes: usize, text: &mut [u8]) -> Sizes
     ensures { (out : List ℕ) → Makes (make (answer_of (Err f)) list.now pairs.now bytes []) text.old out text.new out result }
 {
-    let size = verdict::put_verdict(text, Err(f), list, pairs, bytes);
+    let size = verdict::put_verdict(text, Err(f).into(), list, pairs, bytes);
     Sizes {
         verdict: size,
         text: size,
@@ -82,7 +82,7 @@ fn accept(
     requires { length words.now ≤ 8192 }
     ensures { Makes (make (answer_of (Ok a)) list.now pairs.now 1024 words.now) text.old out.old text.new out.new result }
 {
-    let verdict = verdict::put_verdict(text, Ok(a), list, pairs, 1024);
+    let verdict = verdict::put_verdict(text, Ok(a).into(), list, pairs, 1024);
     endian::store(words, out);
     let mut writer = Writer::new(text, verdict);
     format::put_format(&mut writer, b"", b"written %d words\n", &[words.len()]);

@@ -26,7 +26,7 @@ module _ (l image : List ℕ) (s : Drafted) (h : CanTake l image s) where
   pub setting_number : (setting_kind (id_of (get_or l s.at 0)) ≡ 0 → ⊥) → number_of (id_of (get_or l s.at 0)) < 64
   setting_number f = h.number f
 
-  took-setting : (kind ≡ 0 → ⊥) → (words : ℕ) → size_at l s.at ≡ words → behind_setting (id_at l s.at) words s ≡ after_command l image s
+  pub took-setting : (kind ≡ 0 → ⊥) → (words : ℕ) → size_at l s.at ≡ words → behind_setting (id_at l s.at) words s ≡ after_command l image s
   unfolding after_command
   took-setting f words es = rw (ne_eqb kind 0 f, es)
 

@@ -19,7 +19,8 @@ pub fn load(input: &[u8], words: &mut [u32])
 {
     let (chunks, _) = input.as_chunks::<4>();
     for (i, bytes) in chunks.iter().enumerate() {
-        words::put(words, i, u32::from_le_bytes(*bytes));
+        let [a, b, c, d] = *bytes;
+        words::put(words, i, little_endian(a, b, c, d));
     }
 }
 

@@ -4,7 +4,7 @@
 
 ghost use Rattle.std.specs.Prelude.{◌≡◌, cond, ◌<◌};
 ghost use Rattle.rules.specs.Values.{refusal};
-ghost use Rattle.table.specs.Tables.{row_count};
+ghost use Rattle.table.specs.Tables.{row_count, group};
 ghost use Rattle.values.specs.First.{found, no_refusal, refusal_or_none, first_of};
 ghost use Rattle.faults.specs.Faults.{unless_defined, first_undefined, any_undefined, value_fault};
 
@@ -40,15 +40,24 @@ pub fn undefined_bits(tables: &Tables, row: u8, g: Group) -> bool
     (a | b) | (c | d)
 }
 
-// Refusal 6 of the first word of a group that has an undefined bit. Only a refusal asks for it.
-pub fn undefined_fault(tables: &Tables, row: u8, g: Group) -> Option<Refusal>
+// Refusal 6 of the first word of a group that has an undefined bit. Only a refusal asks for it: a call, with the words one by one,
+// so that `undefined_bits` looks at the four of them at once and no group is stored for each command that is decoded.
+#[inline(never)]
+pub fn undefined_fault(
+    tables: &Tables,
+    row: u8,
+    header: u32,
+    second: u32,
+    third: u32,
+    fourth: u32,
+) -> Option<Refusal>
     requires { row < row_count }
-    ensures { refusal_or_none result ≡ first_undefined row g no_refusal }
+    ensures { refusal_or_none result ≡ first_undefined row (group header second third fourth) no_refusal }
 {
-    let fourth = unless_defined(3, g.fourth, tables.mask(row, 3), None);
-    let third = unless_defined(2, g.third, tables.mask(row, 2), fourth);
-    let second = unless_defined(1, g.second, tables.mask(row, 1), third);
-    unless_defined(0, g.header, tables.mask(row, 0), second)
+    let fourth = unless_defined(3, fourth, tables.mask(row, 3), None);
+    let third = unless_defined(2, third, tables.mask(row, 2), fourth);
+    let second = unless_defined(1, second, tables.mask(row, 1), third);
+    unless_defined(0, header, tables.mask(row, 0), second)
 }
 
 // ---- illegal values and clashes

@@ -17,7 +17,7 @@ part-is k l = take_all (length l - k) (drop k l) (omega (arith, length-drop k l)
 
 -- ---- the first line, as far as byte i
 
-line_none : (l : List ℕ) → length l ≡ 0 → line_of l ≡ []
+pub line_none : (l : List ℕ) → length l ≡ 0 → line_of l ≡ []
 unfolding line_of
 line_none [] h = refl
 line_none (c ∷ cs) h = absurd (omega arith)

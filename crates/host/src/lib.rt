@@ -20,7 +20,7 @@ pub extern "C" fn xp10_read(
 ) -> u32
     ensures { call result image.new records.new answer.new ≡ result_of (reading_in list.now image.old records.old mode) answer.old }
 {
-    answer::write(swap::read(list, image, records, mode), answer)
+    answer::write(swap::read(list, image, records, mode).into(), answer)
 }
 
 // The reader on several lists in turn.
@@ -34,7 +34,10 @@ pub extern "C" fn xp10_read_scenes(
 ) -> u32
     ensures { call result image.new records.new answer.new ≡ scenes_read words.now table.now image.old records.old answer.old }
 {
-    answer::write_session(session::read_scenes(words, table, image, records), answer)
+    answer::write_session(
+        session::read_scenes(words, table, image, records).into(),
+        answer,
+    )
 }
 
 // The normaliser in a mode.
@@ -48,7 +51,7 @@ pub extern "C" fn xp10_normalise(
 ) -> u32
     ensures { call result image.now out.new answer.new ≡ result_of (normalising_in list.now image.now out.old mode) answer.old }
 {
-    answer::write(swap::normalise(list, image, out, mode), answer)
+    answer::write(swap::normalise(list, image, out, mode).into(), answer)
 }
 
 // The room that the normal form takes.
@@ -56,7 +59,7 @@ pub extern "C" fn xp10_normalise(
 pub extern "C" fn xp10_measure(list: &[u32], image: &[u32], answer: &mut [u32]) -> u32
     ensures { answered result answer.new ≡ answer_result (measuring list.now image.now) answer.old }
 {
-    answer::write(form::measure(list, image), answer)
+    answer::write(form::measure(list, image).into(), answer)
 }
 
 // The list as PCI writes.
@@ -69,7 +72,7 @@ pub extern "C" fn xp10_to_pci(
 ) -> u32
     ensures { call result image.now pairs.new answer.new ≡ result_of (to_pci list.now image.now pairs.old) answer.old }
 {
-    answer::write(pci_writer::to_pci(list, image, pairs), answer)
+    answer::write(pci_writer::to_pci(list, image, pairs).into(), answer)
 }
 
 // PCI writes as the list.
@@ -82,7 +85,7 @@ pub extern "C" fn xp10_from_pci(
 ) -> u32
     ensures { call result image.now list.new answer.new ≡ result_of (from_pci pairs.now image.now list.old) answer.old }
 {
-    answer::write(pci_reader::from_pci(pairs, image, list), answer)
+    answer::write(pci_reader::from_pci(pairs, image, list).into(), answer)
 }
 
 // Where a scene of a book is.
@@ -90,7 +93,7 @@ pub extern "C" fn xp10_from_pci(
 pub extern "C" fn xp10_find_scene(book: &[u32], number: u32, place: &mut [u32]) -> u32
     ensures { answered result place.new ≡ place_result (finding_scene book.now number) place.old }
 {
-    answer::write_place(book::find(book, number), place)
+    answer::write_place(book::find(book, number).into(), place)
 }
 
 // The book of a table's scenes.
@@ -103,5 +106,5 @@ pub extern "C" fn xp10_write_book(
 ) -> u32
     ensures { written result book.new answer.new ≡ book_result (writing_book table.now words.now book.old) answer.old }
 {
-    answer::write_book_answer(book::write_book(table, words, book), answer)
+    answer::write_book_answer(book::write_book(table, words, book).into(), answer)
 }

@@ -10,7 +10,7 @@ use rules::NO_BIT;
 use table::ROWS;
 
 // Four words to a row: a form that is fixed (docs/DECISIONS.md).
-type Masks = [u32; ROWS as usize * 4];
+pub type Masks = [u32; ROWS as usize * 4];
 
 // "The masks show the defined bits, first word's header first." A word that a row does not have has every bit.
 const MASKS: Masks = [

@@ -30,6 +30,14 @@ chunk_pair (a ∷ v ∷ ps) zero at h n = absurd (omega arith)
 chunk_pair [] k at h n = absurd (omega arith)
 chunk_pair (a ∷ []) k at h n = absurd (omega arith)
 
+pub address_of : (ps : List ℕ) (at : ℕ) → at < length (values ps) → get_or ps (2 * at) 0 ≡ get_or (addresses ps) at 0
+address_of [] at h = absurd (omega arith)
+address_of (a ∷ []) at h = absurd (omega arith)
+address_of (a ∷ v ∷ ps) zero h = refl
+address_of (a ∷ v ∷ ps) (suc at) h =
+    let i : 2 * suc at ≡ suc (suc (2 * at)) = omega arith in
+    ap (λ (k : ℕ). get_or (a ∷ v ∷ ps) k 0) i ∙ address_of ps at (omega arith)
+
 -- the pairs as chunks of two words
 module _ (ps : List ℕ) (at : ℕ) {chunks : List (List ℕ)} (e : chunks ≡ first_chunks 2 (length ps / 2) ps) (h : at < length (values ps)) where
   pub address_of_chunk : get_or (get_or chunks at []) 0 0 ≡ get_or (addresses ps) at 0

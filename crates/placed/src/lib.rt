@@ -17,7 +17,7 @@ fn all_placed(pairs: &[u32], at: usize, words: usize, id: u8) -> bool
 {
     let mut right = true;
     for i in 0..words {
-        right &= pairs::address_at(pairs, at + i) == pairs::address(id, i);
+        right &= pairs[2 * (at + i)] == pairs::address(id, i);
     }
     right
 }

@@ -64,7 +64,7 @@ module _ (ws image buffer : List ℕ) where
       let lines : length (chunks line out) ≤ 81920 = omega (arith, lines-length 0 cs (omega arith)) in
       rw (written-accept ws cs out (final image cs) buffer) (omega (arith, listed-length o.answer out 81920 lines))
 
-  reading-length : length (text_of (reading ws image buffer)) ≤ 82003
+  pub reading-length : length (text_of (reading ws image buffer)) ≤ 82003
   reading-length = reading-cases ws image buffer (λ o. length (text_of o) ≤ 82003) (λ f. refuse-length f image buffer) accept-length
 
 pub reading-few : (ws image buffer : List ℕ) {o : Outcome} → o ≡ reading ws image buffer → length (text_of o) ≤ 82003

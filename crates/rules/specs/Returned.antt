@@ -1,14 +1,19 @@
 -- What the functions return, as the verdicts that the papers have.
-use Rattle.std.specs.Prelude.{ℕ, Result, Ok, Err}
+use Rattle.std.specs.Prelude.{ℕ, List, [], Result, Ok, Err}
+use denote.Ref.{Bor}
 use Rattle.rules.specs.declared.Reason.{Reason}
 use Rattle.rules.specs.declared.Reason.TheVariants as reason
 use Rattle.rules.specs.declared.Refusal.{Refusal as Returned}
 use Rattle.rules.specs.declared.Accepted.{Accepted}
 use Rattle.rules.specs.declared.Session.{Session}
 use Rattle.rules.specs.declared.Scene.{Scene}
+use Rattle.rules.specs.declared.Answer.{Answer as Numbers}
+use Rattle.rules.specs.declared.SessionAnswer.{SessionAnswer as SessionNumbers}
+use Rattle.rules.specs.declared.SceneAnswer.{SceneAnswer as SceneNumbers}
+use Rattle.rules.specs.declared.BookAnswer.{BookAnswer as BookNumbers}
 use Rattle.rules.specs.Verdict.{Refusal, Answer, SessionAnswer, SceneAnswer, BookAnswer}
 use Rattle.rules.specs.Answer.{refused_answer, accepted_answer}
-use Rattle.rules.specs.Book.{no_scene, book_answer}
+use Rattle.rules.specs.Book.{Told, found, no_scene, book_answer}
 
 -- the numbers of document 01's table, and of document 02's tickets
 abbrev pub number_of : Reason → ℕ
@@ -70,7 +75,26 @@ abbrev pub scene_answer_of : Result Scene Reason → SceneAnswer
 scene_answer_of (Ok s) = record { verdict = 0; start = s.start; length = s.length }
 scene_answer_of (Err r) = no_scene (number_of r)
 
+-- what a caller is told by a stretch that is handed back, or by a refusal
+abbrev pub told_of : Result (Bor (List ℕ)) Reason → Told
+told_of (Ok stretch) = found stretch.now
+told_of (Err reason) = record { verdict = number_of reason; words = [] }
+
 -- 0 with the words written, or a refusal with none
 abbrev pub book_answer_of : Result ℕ Reason → BookAnswer
 book_answer_of (Ok words) = book_answer 0 words
 book_answer_of (Err r) = book_answer (number_of r) 0
+
+-- ---- any numbers, as a caller's words hold them
+
+abbrev pub answer_with : Numbers → Answer
+answer_with a = record { verdict = a.verdict; bit = a.bit; position = a.position; commands = a.commands; records = a.records; words = a.words }
+
+abbrev pub session_with : SessionNumbers → SessionAnswer
+session_with s = record { answer = answer_with s.answer; lists = s.lists }
+
+abbrev pub scene_with : SceneNumbers → SceneAnswer
+scene_with a = record { verdict = a.verdict; start = a.start; length = a.length }
+
+abbrev pub book_with : BookNumbers → BookAnswer
+book_with a = record { verdict = a.verdict; words = a.words }

@@ -4,7 +4,8 @@
 
 ghost use Rattle.std.specs.Prelude.{◌≡◌, ◌+◌, ◌^◌, ◌<◌};
 ghost use Rattle.rules.specs.Values.{shift};
-ghost use Rattle.rules.specs.Returned.{number_of, bit_of, numbered_refusal};
+ghost use Rattle.rules.specs.Returned.{number_of, bit_of, numbered_refusal, answer_of, session_end, session_answer_of, scene_answer_of, book_answer_of};
+ghost use Rattle.rules.specs.Returned.{answer_with, session_with, scene_with, book_with};
 
 // Why a list, an image, pairs or a book are refused. Each reason has a number of its own (`number_of`).
 #[derive(Clone, Copy, PartialEq, Eq)]
@@ -135,4 +136,112 @@ pub struct Entry {
 pub struct Scene {
     pub start: u32,
     pub length: u32,
+}
+
+// ---- the same as numbers: any, also such as no call gives
+
+// The numbers of an answer.
+#[derive(Clone, Copy)]
+pub struct Answer {
+    pub verdict: u32,
+    pub bit: u32,
+    pub position: usize,
+    pub commands: usize,
+    pub records: usize,
+    pub words: usize,
+}
+
+// The numbers by how a call ended: at a position, or refused.
+fn numbers(end: Result<usize, Refusal>, commands: usize, records: usize, words: usize) -> Answer
+    ensures { answer_with result ≡ session_end commands records words end }
+{
+    let (verdict, position, bit) = match end {
+        Ok(position) => (0, position, NO_BIT),
+        Err(f) => (f.reason.number(), f.word, f.reason.bit()),
+    };
+    Answer {
+        verdict,
+        bit,
+        position,
+        commands,
+        records,
+        words,
+    }
+}
+
+impl From<Result<Accepted, Refusal>> for Answer {
+    ghost from_gives = { λ outcome a. answer_with a ≡ answer_of outcome };
+
+    fn from(outcome: Result<Accepted, Refusal>) -> Answer {
+        match outcome {
+            Ok(a) => numbers(Ok(a.position), a.commands, a.records, a.words),
+            Err(f) => numbers(Err(f), 0, 0, 0),
+        }
+    }
+}
+
+// The numbers of a session's answer, and the lists applied.
+#[derive(Clone, Copy)]
+pub struct SessionAnswer {
+    pub answer: Answer,
+    pub lists: usize,
+}
+
+impl From<Session> for SessionAnswer {
+    ghost from_gives = { λ session s. session_with s ≡ session_answer_of session };
+
+    fn from(s: Session) -> SessionAnswer {
+        SessionAnswer {
+            answer: numbers(s.end, s.commands, s.records, s.words),
+            lists: s.lists,
+        }
+    }
+}
+
+// The verdict on a question for a scene, and where in its book the scene is.
+#[derive(Clone, Copy)]
+pub struct SceneAnswer {
+    pub verdict: u32,
+    pub start: u32,
+    pub length: u32,
+}
+
+impl From<Result<Scene, Reason>> for SceneAnswer {
+    ghost from_gives = { λ found a. scene_with a ≡ scene_answer_of found };
+
+    fn from(found: Result<Scene, Reason>) -> SceneAnswer {
+        match found {
+            Ok(scene) => SceneAnswer {
+                verdict: 0,
+                start: scene.start,
+                length: scene.length,
+            },
+            Err(reason) => SceneAnswer {
+                verdict: reason.number(),
+                start: 0,
+                length: 0,
+            },
+        }
+    }
+}
+
+// The verdict of a book's writer, and the words written.
+#[derive(Clone, Copy)]
+pub struct BookAnswer {
+    pub verdict: u32,
+    pub words: usize,
+}
+
+impl From<Result<usize, Reason>> for BookAnswer {
+    ghost from_gives = { λ written a. book_with a ≡ book_answer_of written };
+
+    fn from(written: Result<usize, Reason>) -> BookAnswer {
+        match written {
+            Ok(words) => BookAnswer { verdict: 0, words },
+            Err(reason) => BookAnswer {
+                verdict: reason.number(),
+                words: 0,
+            },
+        }
+    }
 }

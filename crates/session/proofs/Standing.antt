@@ -39,7 +39,7 @@ module _ (ws table image₀ buffer₀ : List ℕ) where
       pub standing_stops : (t.session.answer.verdict ≡ 0 → ⊥) → t ≡ reading_scenes ws table image₀ buffer₀
       standing_stops z = sym (from_stopped ws (drop (2 * (s.session.lists + 1)) table) t z) ∙ rest
 
-      one_more : t.session.answer.verdict ≡ 0 → t.session.lists ≡ s.session.lists + 1
+      pub one_more : t.session.answer.verdict ≡ 0 → t.session.lists ≡ s.session.lists + 1
       one_more z = ap (λ (o : SessionOutcome). o.session.lists) is ∙ pair_applied ws _ _ s (ap (λ (o : SessionOutcome). o.session.answer.verdict) (sym is) ∙ z)
 
       pub standing_on : t.session.answer.verdict ≡ 0 → Standing (k + 1) t

@@ -29,12 +29,6 @@ equal_suc (x ∷ a) (y ∷ b) (suc i) h k = ap (λ p. eqb x y && p) (equal_suc a
 pub equal_more : (a b : List ℕ) (i : ℕ) → i < length a → i < length b → equal (take (i + 1) a) (take (i + 1) b) ≡ (equal (take i a) (take i b) && eqb (get_or a i 0) (get_or b i 0))
 equal_more a b i h k = rw add-one (equal_suc a b i h k)
 
--- one word more
-pub put_more : (out : List ℕ) (n : ℕ) (ws : List ℕ) (i : ℕ) → i < length ws → sets out n (take (i + 1) ws) ≡ set (sets out n (take i ws)) (n + i) (get_or ws i 0)
-put_more out n ws i h =
-    ap (λ (k : ℕ). sets out n (take k ws)) (add-one i) ∙ ap (sets out n) (take-suc ws i 0 h) ∙ sets_append out n (take i ws) (get_or ws i 0 ∷ [])
-    ∙ ap (λ (k : ℕ). set (sets out n (take i ws)) (n + k) (get_or ws i 0)) (length-take-le i ws (omega arith))
-
 -- what has no room is not written
 pub put_none : (out : List ℕ) (n : ℕ) (ws : List ℕ) → length out ≤ n → sets out n ws ≡ out
 put_none = sets_past

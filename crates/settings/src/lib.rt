@@ -27,7 +27,7 @@ pub struct Memory {
 }
 
 // Words that have room from a position on. Stays: tried, with `copy_from_slice` normalising took 1.04 to 1.09 of the time.
-#[tactic(auto, using(crate::proofs::Slices::put_more))]
+#[tactic(auto, using(theory::proofs::Image::put_more))]
 fn copy(words: &[u32], out: &mut [u32], n: usize)
     requires { n + length words.now ≤ length out.old }
     ensures { out.new ≡ sets out.old n words.now }

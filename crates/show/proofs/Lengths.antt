@@ -54,7 +54,7 @@ module _ (before after : List ℕ) where
       omega (arith, length-append (change_line r.id (size r) before after) (change_lines rs before after), change_length r.id (size r) h, rows-length rs (and_right (leb (size r) 4) _ t))
 
   -- with room for some twenty settings more
-  sets_length : length (sets_text before after) ≤ 8192
+  pub sets_length : length (sets_text before after) ≤ 8192
   unfolding sets_text settings table
   sets_length = simp length-append (omega (arith, rows-length settings refl))
 
@@ -73,7 +73,7 @@ works-length (a ∷ b ∷ c ∷ d ∷ ws) =
     omega (arith, length-append (record_line commands (ascii "%d %2 %d %6%n\n") a b c d) (work_lines ws), work-length a b c d, works-length ws)
 
 module _ (records : List ℕ) (few : length records ≤ 16384) where
-  draws_length : length (draws_text records) ≤ 299040
+  pub draws_length : length (draws_text records) ≤ 299040
   unfolding draws_text
   draws_length = omega (arith, works-length records, few)
 

@@ -123,7 +123,7 @@ pub fn put_show(text: &mut [u8], list: &[u32], image: &[u32; 256]) -> usize
     let mut records = [0u32; 16384];
     let answer = read(list, &mut after, &mut records);
     let Ok(a) = answer else {
-        return verdict::put_verdict(text, answer, list, &[], 1024);
+        return verdict::put_verdict(text, answer.into(), list, &[], 1024);
     };
     let form = words_of(form::measure(list, image));
     let mut writer = Writer::new(text, 0);

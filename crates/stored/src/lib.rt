@@ -73,18 +73,9 @@ pub fn next_words(rt: HostRuntime, words: &mut [u32]) -> usize
     load_words(&mut rt.stdin(), &mut bytes[..n], words)
 }
 
-// The next words of standard input as an array, where there are as many.
-fn next_array<const N: usize>(rt: HostRuntime) -> Option<[u32; N]> {
-    let mut array = [0u32; N];
-    if next_words(rt, &mut array) < N {
-        return None;
-    }
-    Some(array)
-}
-
 // The front of a buffer, filled with the next words of standard input. A length that is too large is cut.
 fn next_part(rt: HostRuntime, buffer: &mut [u32], words: u32) -> &[u32]
-    ensures { length result.now ≤ length buffer.old }
+    ensures { length result.now ≡ min (length buffer.old) words }
 {
     let n = buffer.len().min(words as usize);
     next_words(rt, &mut buffer[..n]);
@@ -165,16 +156,24 @@ struct Front<const SIZES: usize> {
     digest: u32,
 }
 
-fn next_front<const SIZES: usize>(rt: HostRuntime) -> Option<Front<SIZES>> {
-    let [tag, words, arguments] = next_array::<3>(rt)?;
-    let sizes = next_array::<SIZES>(rt)?;
-    let [digest] = next_array::<1>(rt)?;
+// The front of the next case, where there is one. It is read at once, since each read has a buffer of its own.
+fn next_front<const SIZES: usize>(rt: HostRuntime) -> Option<Front<SIZES>>
+    requires { SIZES ≤ 256 }
+{
+    let mut buffer = [0u32; 260];
+    let front = &mut buffer[..SIZES + 4];
+    if next_words(rt, front) < front.len() {
+        return None;
+    }
+    let [tag, words, arguments, sizes @ .., digest] = &*front else {
+        return None;
+    };
     Some(Front {
-        tag,
-        words,
-        arguments,
-        sizes,
-        digest,
+        tag: *tag,
+        words: *words,
+        arguments: *arguments,
+        sizes: <[u32; SIZES]>::try_from(sizes).ok()?,
+        digest: *digest,
     })
 }
 

@@ -10,6 +10,7 @@ ghost use Rattle.rules.specs.Returned.{answer_of};
 ghost use Rattle.rules.specs.Swap.{swap, words_got, reading_in, normalising_in};
 ghost use Rattle.swap.specs.Mode.{mode_number, Decodes};
 
+use endian::little_endian;
 use rules::{Accepted, Reason, Refusal};
 
 // How a board swaps the bytes of a word (CommandSwap, 001, 3.1.3).
@@ -49,9 +50,9 @@ impl Mode {
         let [a, b, c, d] = word.to_le_bytes();
         match self {
             Mode::Unchanged => word,
-            Mode::BytesInHalves => u32::from_le_bytes([b, a, d, c]),
-            Mode::Halves => u32::from_le_bytes([c, d, a, b]),
-            Mode::AllBytes => u32::from_le_bytes([d, c, b, a]),
+            Mode::BytesInHalves => little_endian(b, a, d, c),
+            Mode::Halves => little_endian(c, d, a, b),
+            Mode::AllBytes => little_endian(d, c, b, a),
         }
     }
 }

@@ -8,8 +8,9 @@ use mathlib.Core.List.{List, [], ◌∷◌, ◌++◌}
 use native.Mathlib.Decide.{ℕ_discrete}
 use lib.Dec.{eqb}
 use borrow.Author.Tests.{eqb-true, eq-eqb}
-use lib.ListN.{length, get_or, set, length-set}
-use lib.Seq.{sets, set_out, get_or-set_same, get_or-set_other}
+use native.Mathlib.Numerals.{add-one}
+use lib.ListN.{length, get_or, set, take, length-set}
+use lib.Seq.{sets, set_out, get_or-set_same, get_or-set_other, take-suc, length-take-le}
 use Rattle.rules.specs.Form.{read, equal}
 use Rattle.theory.proofs.Bools.{and_left, and_right}
 
@@ -88,6 +89,12 @@ sets_past l i (v ∷ vs) h =
 pub sets_append : (l : List ℕ) (i : ℕ) (a b : List ℕ) → sets l i (a ++ b) ≡ sets (sets l i a) (i + length a) b
 sets_append l i [] b = ap (λ (j : ℕ). sets l j b) (omega arith)
 sets_append l i (v ∷ a) b = sets_append (set l i v) (suc i) a b ∙ ap (λ (j : ℕ). sets (sets (set l i v) (suc i) a) j b) (omega arith)
+
+-- one word more
+pub put_more : (out : List ℕ) (n : ℕ) (ws : List ℕ) (i : ℕ) → i < length ws → sets out n (take (i + 1) ws) ≡ set (sets out n (take i ws)) (n + i) (get_or ws i 0)
+put_more out n ws i h =
+    ap (λ (k : ℕ). sets out n (take k ws)) (add-one i) ∙ ap (sets out n) (take-suc ws i 0 h) ∙ sets_append out n (take i ws) (get_or ws i 0 ∷ [])
+    ∙ ap (λ (k : ℕ). set (sets out n (take i ws)) (n + k) (get_or ws i 0)) (length-take-le i ws (omega arith))
 
 -- a run put after another, and word by word
 module _ (out : List ℕ) (n : ℕ) (l : List ℕ) (at : ℕ) where

@@ -1,5 +1,5 @@
 // Files by name, and lines on standard error.
-ghost use Rattle.std.specs.Prelude.{◌≡◌, ◌<◌, ◌≤◌, ◌↔◌, IsTrue, IsOkAnd, IfOk, length, codes};
+ghost use Rattle.std.specs.Prelude.{◌≡◌, ◌<◌, ◌≤◌, ◌↔◌, IsTrue, IsOkAnd, IfOk, length, replicate, codes};
 
 use std::fs::{File, OpenOptions};
 use std::io::{Read, Write};
@@ -91,7 +91,7 @@ static ZERO_IMAGE: [u8; 1024] = [0; 1024];
 // The same; `zero` is an image of zeros.
 pub fn read_image<'a>(rt: HostRuntime, name: &[u8], buffer: &'a mut [u8]) -> Result<&'a [u8], Told>
     ensures within { IfOk result (λ image. 1024 ≤ length buffer.old → length image.now ≤ length buffer.old) }
-    ensures zero { name.now ≡ codes "zero" → IsOkAnd result (λ image. image.now ≡ ZERO_IMAGE) }
+    ensures zero { name.now ≡ codes "zero" → IsOkAnd result (λ image. image.now ≡ replicate 1024 0) }
 {
     if name == b"zero".as_slice() {
         return Ok(&ZERO_IMAGE);

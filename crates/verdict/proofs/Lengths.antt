@@ -28,19 +28,19 @@ unfolding refusals line_of
 refusals_narrow = refl
 
 module _ (number p bit : ℕ) where
-  image-length : (bytes : ℕ) → length (image_line number bytes) ≤ 40
+  pub image-length : (bytes : ℕ) → length (image_line number bytes) ≤ 40
   unfolding image_line
   image-length bytes =
       length-cond (eqb number 2) (formatted [] (ascii "image %d bytes\n") (bytes ∷ [])) [] 40
       (omega (arith, formatted-length [] 0 refl (ascii "image %d bytes\n") (bytes ∷ []))) (omega arith)
 
-  address-length : (pairs : List ℕ) → length (address_line pairs p) ≤ 40
+  pub address-length : (pairs : List ℕ) → length (address_line pairs p) ≤ 40
   unfolding address_line
   address-length pairs =
       length-cond (ltb p (length pairs / 2)) (formatted [] (ascii "address %8\n") (get_or pairs (2 * p) 0 ∷ [])) [] 40
       (omega (arith, formatted-length [] 0 refl (ascii "address %8\n") (get_or pairs (2 * p) 0 ∷ []))) (omega arith)
 
-  place-length : (ws : List ℕ) → length (place_lines ws p) ≤ 200
+  pub place-length : (ws : List ℕ) → length (place_lines ws p) ≤ 200
   unfolding place_lines
   place-length ws =
       let start : ℕ = start_of ws p in
@@ -49,7 +49,7 @@ module _ (number p bit : ℕ) where
       length-cond (ltb p (length ws)) (formatted commands (ascii "word %8\ncommand %2%n at %d\n") ns) [] 200
       (omega (arith, formatted-length commands 21 names_narrow (ascii "word %8\ncommand %2%n at %d\n") ns)) (omega arith)
 
-  bit_length : length (bit_line bit) ≤ 40
+  pub bit_length : length (bit_line bit) ≤ 40
   unfolding bit_line
   bit_length =
       length-cond (eqb bit 32) [] (formatted [] (ascii "bit %d\n") (bit ∷ [])) 40
@@ -58,7 +58,7 @@ module _ (number p bit : ℕ) where
   row-bound : length (refusal_row number) ≤ 160
   row-bound = row-length 160 (cond (ltb number 10) 0x20 (digit (number / 10 % 10))) (digit (number % 10)) true refusals refusals_narrow
 
-refusal-length : (a : Answer) (ws pairs : List ℕ) (bytes : ℕ) → length (refusal_text a ws pairs bytes) ≤ 540
+pub refusal-length : (a : Answer) (ws pairs : List ℕ) (bytes : ℕ) → length (refusal_text a ws pairs bytes) ≤ 540
 unfolding refusal_text
 refusal-length a ws pairs bytes =
     let n : ℕ = a.verdict in

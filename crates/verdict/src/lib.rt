@@ -5,11 +5,11 @@ ghost use Rattle.std.specs.Prelude.{◌≡◌, ◌<◌, ◌≤◌, length};
 ghost use Rattle.text.specs.Puts.{Puts};
 ghost use Rattle.text.specs.Wrote.{Wrote};
 ghost use Rattle.rules.specs.Place.{start_of};
-ghost use Rattle.rules.specs.Returned.{answer_of};
-ghost use Rattle.verdict.specs.Numbers.{answer_with, numbers_of};
+ghost use Rattle.rules.specs.Returned.{answer_with as any_answer};
+ghost use Rattle.verdict.specs.Numbers.{answer_with};
 ghost use Rattle.verdict.specs.Verdict.{image_line, address_line, place_lines, bit_line, why_line, refusal_text, verdict_text};
 
-use rules::{Accepted, NO_BIT, Refusal};
+use rules::{Answer, NO_BIT};
 use text::Writer;
 
 // The numbers of an answer, as a caller's words hold them: any, also such as no call gives.
@@ -126,36 +126,16 @@ pub fn put_numbers(text: &mut [u8], n: Numbers, list: &[u32], pairs: &[u32], byt
     writer.position()
 }
 
-fn numbers_of(answer: Result<Accepted, Refusal>) -> Numbers
-    ensures { result ≡ numbers_of answer }
-{
-    match answer {
-        Ok(a) => Numbers {
-            verdict: 0,
-            bit: NO_BIT,
-            position: a.position,
-            commands: a.commands,
-            records: a.records,
-        },
-        Err(f) => Numbers {
-            verdict: f.reason.number(),
-            bit: f.reason.bit(),
-            position: f.word,
-            commands: 0,
-            records: 0,
-        },
-    }
-}
-
 // The text of an answer on a list, or on pairs and the list that they carry, with an image of some bytes.
-pub fn put_verdict(
-    text: &mut [u8],
-    answer: Result<Accepted, Refusal>,
-    list: &[u32],
-    pairs: &[u32],
-    bytes: usize,
-) -> usize
-    ensures { Puts (verdict_text (answer_of answer) list.now pairs.now bytes) text.old 0 text.new result }
+pub fn put_verdict(text: &mut [u8], a: Answer, list: &[u32], pairs: &[u32], bytes: usize) -> usize
+    ensures { Puts (verdict_text (any_answer a) list.now pairs.now bytes) text.old 0 text.new result }
 {
-    put_numbers(text, numbers_of(answer), list, pairs, bytes)
+    let numbers = Numbers {
+        verdict: a.verdict,
+        bit: a.bit,
+        position: a.position,
+        commands: a.commands,
+        records: a.records,
+    };
+    put_numbers(text, numbers, list, pairs, bytes)
 }

@@ -22,16 +22,16 @@ pub returns-then-len-at : goal.returns-then-len-at
 returns-then-len-at g c = λ e. sym (group_cut _ _ _ _ c.requires.0 c.ranges.id.fits c.requires.1 (omega (arith, c.if-len-at.true, c.len.ensures)))
 
 pub unwrap-requires : goal.unwrap-requires
-unwrap-requires g c = let is = some-found c.undefined_fault.result ∙ ap found c.undefined_fault.ensures ∙ undefined-found _ _ (sym c.undefined_bits.ensures ∙ c.if-undefined_bits.true) in search rules
+unwrap-requires g c = let is = some-found c.undefined_fault-fault.result ∙ ap found c.undefined_fault-fault.ensures ∙ undefined-found _ _ (sym c.undefined_bits.ensures ∙ c.if-undefined_bits.true) in search rules
 
 pub behind-requires : goal.behind-requires
-behind-requires g c = omega (arith, undefined_near _ c.group_at-g.result (numbered_refusal c.unwrap.result) (ap refusal_or_none (sym c.unwrap.ensures) ∙ c.undefined_fault.ensures), c.requires.0.inside, c.well_formed, g.met.S.Source.fits c.args.buffer.now)
+behind-requires g c = omega (arith, undefined_near _ c.group_at-g.result (numbered_refusal c.unwrap.result) (ap refusal_or_none (sym c.unwrap.ensures) ∙ c.undefined_fault-fault.ensures), c.requires.0.inside, c.well_formed, g.met.S.Source.fits c.args.buffer.now)
 
 pub returns-then-undefined_bits : goal.returns-then-undefined_bits
 returns-then-undefined_bits g c =
     let four : c.args.at + 4 ≤ length (g.S.Source.words c.args.buffer.now) = omega (arith, c.if-len-at.false, c.len.ensures) in
     λ e. ap Err c.behind.ensures
-    ∙ sym (group-undefined _ _ _ _ c.requires.0 c.ranges.id.fits c.requires.1 four _ c.group_at-g.ensures c.undefined_bits.ensures c.if-undefined_bits.true _ (ap refusal_or_none (sym c.unwrap.ensures) ∙ c.undefined_fault.ensures))
+    ∙ sym (group-undefined _ _ _ _ c.requires.0 c.ranges.id.fits c.requires.1 four _ c.group_at-g.ensures c.undefined_bits.ensures c.if-undefined_bits.true _ (ap refusal_or_none (sym c.unwrap.ensures) ∙ c.undefined_fault-fault.ensures))
 
 pub returns-then-not-group_in_place : goal.returns-then-not-group_in_place
 returns-then-not-group_in_place g c =

@@ -13,7 +13,7 @@ loop-i-init c = refl
 pub loop-i-preserved : goal.loop-i-preserved
 loop-i-preserved c =
     let n : c.loop-i.i < length c.args.input.now / 4 = omega (arith, c.as_chunks.ensures.front_len) in
-    let w = rw c.as_chunks.ensures.front at c.from_le_bytes.ensures in
+    let w = rw c.as_chunks.ensures.front at c.little_endian.ensures in
     words_more _ _ _ n c.loop-i.invariant (w ∙ chunk-word (length c.args.input.now / 4) c.loop-i.i c.args.input.now n (omega arith)) c.put.ensures
 
 pub returns : goal.returns

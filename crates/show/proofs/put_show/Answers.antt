@@ -23,7 +23,7 @@ pub returns-in_default : goal.returns-in_default
 unfolding show_text
 returns-in_default c =
     let f = c.in_default.field-0 in
-    let p = rw c.in_default.is at c.put_verdict.ensures in
+    let p = rw (c.into.ensures, c.in_default.is) at c.put_verdict.ensures in
     record {
       puts = rw (← c.in_default.ensures, numbered f.reason) p;
       upper_bound = omega (arith, p.next-is, verdict-length (answer_of (Err f)) c.args.list.now [] 1024);
