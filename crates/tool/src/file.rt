@@ -47,6 +47,15 @@ pub fn is_standard(name: &[u8]) -> bool
     name == STANDARD
 }
 
+// The name of an image of zeros.
+const ZERO: &[u8] = b"zero";
+
+fn is_zero(name: &[u8]) -> bool
+    ensures { IsTrue result ↔ (name.now ≡ codes "zero") }
+{
+    name == ZERO
+}
+
 // What a system says that has no file by a name which is no text.
 const NO_TEXT: i32 = 84;
 
@@ -93,7 +102,7 @@ pub fn read_image<'a>(rt: HostRuntime, name: &[u8], buffer: &'a mut [u8]) -> Res
     ensures within { IfOk result (λ image. 1024 ≤ length buffer.old → length image.now ≤ length buffer.old) }
     ensures zero { name.now ≡ codes "zero" → IsOkAnd result (λ image. image.now ≡ replicate 1024 0) }
 {
-    if name == b"zero".as_slice() {
+    if is_zero(name) {
         return Ok(&ZERO_IMAGE);
     }
     read(rt, name, buffer)
