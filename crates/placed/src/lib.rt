@@ -23,6 +23,7 @@ fn all_placed(pairs: &[u32], at: usize, words: usize, id: u8) -> bool
 }
 
 // The four pairs of a group stand at its addresses.
+#[tactic(auto, using(pairs::proofs::Pairs::pair_count))]
 pub fn group_placed(pairs: &[u32], at: usize, id: u8) -> bool
     requires { at + 4 ≤ length (values pairs.now) }
     ensures { result ≡ placed id 0 (read (addresses pairs.now) at 4) }

@@ -51,9 +51,11 @@ impl<'a> Writer<'a> {
     pub fn put_decimal(&mut self, n: usize)
         ensures { Wrote (decimal n) self.old self.new }
     {
-        if 10 <= n {
-            self.put_decimal(n / 10);
+        if n < 10 {
+            self.put(digit(n));
+            return;
         }
+        self.put_decimal(n / 10);
         self.put(digit(n % 10));
     }
 
