@@ -12,13 +12,13 @@ use Rattle.book.proofs.Entries.{entries_length, entries-on}
 -- ---- one scene
 
 -- the three words of an entry, then the body
-pub scene-put : (ws book : List ℕ) (i at : ℕ) (e : Entry) → CanPut e ws i at book → {body : List ℕ} → body ≡ take (e.start + e.length - e.start) (drop e.start ws)
-    → sets (set (set (set book i e.number) (i + 1) at) (i + 2) e.length) at body ≡ with_scene ws i at e book
-scene-put ws book i at e can is =
+pub scene-put : (ws book : List ℕ) (i at : ℕ) (e : Entry)
+    → sets (set (set (set book i e.number) (i + 1) at) (i + 2) e.length) at (take (e.start + e.length - e.start) (drop e.start ws)) ≡ with_scene ws i at e book
+scene-put ws book i at e =
     let m : e.start + e.length - e.start ≡ e.length = omega arith in
     let one : i + 1 ≡ suc i = omega arith in
     let two : i + 2 ≡ suc (suc i) = omega arith in
-    rw (is, m, one, two) refl
+    rw (m, one, two) refl
 
 -- ---- all scenes, one after the other
 
